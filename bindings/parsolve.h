@@ -151,7 +151,9 @@ enum {
     PARSOLVE_COMMAND_REPLAY = 3,
     PARSOLVE_COMMAND_GAME = 4,
     PARSOLVE_COMMAND_SYNTH = 5,
-    PARSOLVE_COMMAND_SOLVE_ANY = 6 /* solve --any */
+    PARSOLVE_COMMAND_SOLVE_ANY = 6, /* solve --any */
+    PARSOLVE_COMMAND_VERIFY = 7,
+    PARSOLVE_COMMAND_SYNTH_SMALL = 8 /* synth --small */
 };
 
 /* What `parsolve COMMAND` prints for an input. *written is the length of the text. Where there is too little room, the command has run for

@@ -304,10 +304,10 @@ def texts():
     """(command, input) for each command, answers and faults."""
     examples = {path.name: path.read_bytes() for path in (TOP / "examples").iterdir() if path.suffix in (".pg", ".hoa")}
     for name, text in sorted(examples.items()):
-        for command in ("measure", "solve", "solve --any") if name.endswith(".pg") else ("game", "synth"):
+        for command in ("measure", "solve", "solve --any") if name.endswith(".pg") else ("game", "synth", "synth --small"):
             yield command, text
     game = b"0 2 1 0,1;\n1 1 0 0,1;\n"
-    for command in ("measure", "solve", "solve --any", "check", "replay", "game", "synth"):
+    for command in ("measure", "solve", "solve --any", "check", "replay", "game", "synth", "synth --small", "verify"):
         yield from ((command, text) for text in (b"", b"\n", b"0 0 0 9;\n", game, game + b"--\n", game + b"--\n0 0;\n1 0 1;\n"))
     yield "replay", game + b"--\nworkers 1;\ncentral 1;\nlift 1 1;\ndeliver 1 0;\n"
 

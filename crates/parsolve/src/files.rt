@@ -74,7 +74,9 @@ pub(crate) fn read_both<'a, R: Files + Input + AllocGlobal>(
     rt: &R,
     first: &'a str,
     second: &'a str,
-) -> Result<(Vec<u8>, Vec<u8>), Fault<'a>> {
+) -> Result<(Vec<u8>, Vec<u8>), Fault<'a>>
+    ensures { IfOk result (λ texts. length texts.0.items ≤ MOST_BYTES) }
+{
     let first = read_file(rt, first)?;
     let second = read_file(rt, second)?;
     let newline = if first.ends_with(b"\n") { 0 } else { 1 };

@@ -12,10 +12,11 @@ use fault::{Fault, tell};
 use files::{read, read_both};
 use outs::name_outputs;
 use pg_cli::{
-    CliFault, Command, Invocation, MOST_BYTES, Programs, check_texts, replay_texts, work, write_answer,
+    CliFault, Command, Invocation, MOST_BYTES, Programs, check_texts, part_texts, replay_texts,
+    verify_texts, work, write_answer,
 };
-use pg_cli_statistics::{CountedTops, Figures, Notes, Watch, first_text};
-use pg_cli_words::{Request, Outcome, part_words, read_words};
+use pg_cli_statistics::{CountedTops, Figures, Notes, Watch};
+use pg_cli_words::{Outcome, Request, part_words, read_words};
 use pg_coord::Reach;
 use std::alloc::{AllocError, Global};
 use std::env;
@@ -121,7 +122,7 @@ fn write_bytes<W: Write>(output: &mut W, bytes: &[u8]) -> Result<(), CliFault> {
     output.flush().map_err(|_| CliFault::Write)
 }
 
-/// Writes the answer to the texts of two files, that of `replay` as it is made.
+/// Writes the answer to two texts, that of `replay` as it is made.
 fn print_both<R: System>(
     rt: &R,
     command: Command,
@@ -131,7 +132,10 @@ fn print_both<R: System>(
 ) -> Result<(), CliFault> {
     let alloc = rt.alloc();
     let Command::Replay = command else {
-        let answer = check_texts(alloc, first, second)?;
+        let answer = match command {
+            Command::Verify { by_place, .. } => verify_texts(alloc, by_place, first, second)?,
+            _ => check_texts(alloc, first, second)?,
+        };
         return write_whole(rt, command, &answer, figures);
     };
     let Ok(mut output) = BufWriter::with_capacity(alloc, AT_ONCE, io::writer(rt)) else {
@@ -167,10 +171,15 @@ fn answer<'a, R: System, E: Write>(
         None => None,
     };
     let watch = Watch::start(rt);
-    let text = name_outputs(rt.alloc(), options.outs, read(rt, files)?)?;
+    let text = read(rt, files)?;
+    if let (Command::Verify { .. }, Some(_)) = (command, options.outs) {
+        let (first, second) = part_texts(rt.alloc(), &text)?;
+        return answer_both(rt, errors, command, options, watch, first, second);
+    }
+    let text = name_outputs(rt.alloc(), options.outs, text)?;
     let notes = Notes::of(command, &text);
     let mut figures = if options.stats {
-        Some(Figures::of(rt, command, first_text(command, &text), watch))
+        Some(Figures::of(rt, command, &text, watch))
     } else {
         None
     };
@@ -187,23 +196,28 @@ fn answer<'a, R: System, E: Write>(
     Ok(())
 }
 
-/// The same of a command whose two texts stand in two files.
+/// The same of a command whose two texts stand each by itself; outputs are named of the first one.
 fn answer_both<'a, R: System, E: Write>(
     rt: &R,
     errors: &mut E,
     command: Command,
-    stats: bool,
-    first: &'a str,
-    second: &'a str,
+    options: Options<'a>,
+    watch: Watch,
+    first: Vec<u8>,
+    second: Vec<u8>,
 ) -> Result<(), Fault<'a>> {
-    let watch = Watch::start(rt);
-    let (first, second) = read_both(rt, first, second)?;
-    let mut figures = if stats {
-        Some(Figures::of(rt, command, &first, watch))
+    if first.len() > MOST_BYTES {
+        return Err(Fault::Cli(CliFault::InputTooLong));
+    }
+    let first = name_outputs(rt.alloc(), options.outs, first)?;
+    let notes = Notes::of(command, &first);
+    let mut figures = if options.stats {
+        Some(Figures::of_both(rt, command, &first, &second, watch))
     } else {
         None
     };
     print_both(rt, command, first, second, figures.as_mut())?;
+    notes.tell(errors);
     if let Some(figures) = figures {
         figures.tell(errors);
     }
@@ -228,7 +242,9 @@ fn do_line<'a, R: System, E: Write>(
             };
             match files {
                 [first, second, ..] => {
-                    answer_both(rt, errors, *command, options.stats, first, second)
+                    let watch = Watch::start(rt);
+                    let (first, second) = read_both(rt, first, second)?;
+                    answer_both(rt, errors, *command, options, watch, first, second)
                 }
                 _ => answer(rt, errors, *command, options, files),
             }

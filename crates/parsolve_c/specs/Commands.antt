@@ -1,13 +1,14 @@
 -- What the numbers of commands say, and what is answered to a text.
-use Rattle.std.specs.Prelude.{◌≡◌, ◌≢◌, ℕ, ◌<◌, ◌==◌, List, length, drop, ◌++◌, Option, Some, None, if◌then◌else◌}
+use Rattle.std.specs.Prelude.{◌≡◌, ◌≢◌, ℕ, ◌<◌, ◌==◌, false, List, length, drop, ◌++◌, Option, Some, None, if◌then◌else◌}
 use Rattle.pg_cli_words.specs.declared.command.Command.{Command}
-use Rattle.pg_cli_words.specs.declared.command.Command.TheVariants.{Measure, Solve, SolveAny, Check, Replay, Game, Synth}
+use Rattle.pg_cli_words.specs.declared.command.Command.TheVariants.{Measure, Solve, SolveAny, Check, Replay, Game, Synth, SynthSmall, Verify}
 use Rattle.pg_cli_command.specs.declared.fault.CliFault.{CliFault}
 use Rattle.pg_cli_command.specs.declared.fault.CliFault.TheVariants.{OutOfMemory, Read, Write}
 use Rattle.pg_cli_command.specs.FaultTexts.{fault_line}
 use Rattle.pg_cli_command.specs.Answers.{Prints, Refuses}
 use Rattle.parsolve_c.specs.declared.code.TheConstants.{PARSOLVE_COMMAND_MEASURE, PARSOLVE_COMMAND_SOLVE, PARSOLVE_COMMAND_CHECK}
 use Rattle.parsolve_c.specs.declared.code.TheConstants.{PARSOLVE_COMMAND_REPLAY, PARSOLVE_COMMAND_GAME, PARSOLVE_COMMAND_SYNTH, PARSOLVE_COMMAND_SOLVE_ANY}
+use Rattle.parsolve_c.specs.declared.code.TheConstants.{PARSOLVE_COMMAND_VERIFY, PARSOLVE_COMMAND_SYNTH_SMALL}
 
 -- the command of a number
 abbrev pub command_of : ℕ → Option Command
@@ -19,7 +20,9 @@ command_of n =
     else (if n == PARSOLVE_COMMAND_GAME then Some Game
     else (if n == PARSOLVE_COMMAND_SYNTH then Some (Synth 1)
     else (if n == PARSOLVE_COMMAND_SOLVE_ANY then Some (SolveAny 1)
-    else None))))))
+    else (if n == PARSOLVE_COMMAND_VERIFY then Some (Verify 1 false)
+    else (if n == PARSOLVE_COMMAND_SYNTH_SMALL then Some (SynthSmall 1)
+    else None))))))))
 
 -- the text is what the command of this number prints for the input
 pub record IsPrinted (n : ℕ) (input text : List ℕ) : Type 0 where

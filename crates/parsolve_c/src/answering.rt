@@ -11,8 +11,8 @@ ghost use Rattle.parsolve_c.specs.Mirrors.Replies.{IsReply};
 use crate::code::{
     PARSOLVE_COMMAND, PARSOLVE_COMMAND_CHECK, PARSOLVE_COMMAND_GAME, PARSOLVE_COMMAND_MEASURE,
     PARSOLVE_COMMAND_REPLAY, PARSOLVE_COMMAND_SOLVE, PARSOLVE_COMMAND_SOLVE_ANY,
-    PARSOLVE_COMMAND_SYNTH, PARSOLVE_FAULT, PARSOLVE_OK, PARSOLVE_OUT_OF_MEMORY,
-    PARSOLVE_TOO_SHORT,
+    PARSOLVE_COMMAND_SYNTH, PARSOLVE_COMMAND_SYNTH_SMALL, PARSOLVE_COMMAND_VERIFY, PARSOLVE_FAULT,
+    PARSOLVE_OK, PARSOLVE_OUT_OF_MEMORY, PARSOLVE_TOO_SHORT,
 };
 use crate::copying::copy_bytes;
 use pg_cli_command::{CliFault, Command, MOST_BYTES, answer, write_fault};
@@ -31,6 +31,11 @@ fn command_of(number: u32) -> Option<Command>
         PARSOLVE_COMMAND_GAME => Some(Command::Game),
         PARSOLVE_COMMAND_SYNTH => Some(Command::Synth { workers: 1 }),
         PARSOLVE_COMMAND_SOLVE_ANY => Some(Command::SolveAny { workers: 1 }),
+        PARSOLVE_COMMAND_VERIFY => Some(Command::Verify {
+            workers: 1,
+            by_place: false,
+        }),
+        PARSOLVE_COMMAND_SYNTH_SMALL => Some(Command::SynthSmall { workers: 1 }),
         _ => None,
     }
 }

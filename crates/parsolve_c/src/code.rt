@@ -71,6 +71,12 @@ pub const PARSOLVE_COMMAND_SYNTH: u32 = 5;
 /// `solve --any`.
 pub const PARSOLVE_COMMAND_SOLVE_ANY: u32 = 6;
 
+/// `verify`, by names.
+pub const PARSOLVE_COMMAND_VERIFY: u32 = 7;
+
+/// `synth --small`.
+pub const PARSOLVE_COMMAND_SYNTH_SMALL: u32 = 8;
+
 /// The code of a fault of a game.
 fn game_code(fault: GameFault) -> u32
     ensures { result ≡ game_code fault }

@@ -2,11 +2,7 @@
 use Rattle.std.specs.Prelude.{◌≡◌, ℕ, suc, ◌+◌, ◌*◌, ◌<◌, ◌≤◌, List, [], ◌∷◌, length, map, slice_index_or}
 use Rattle.std.specs.List.{range_with_len}
 use Rattle.pg_aiger.specs.declared.gate.Gate.{Gate}
-
--- a latch's line: its literal, and the literal that it takes over in the next step
-pub record Latch : Type 0 where
-  pub literal : ℕ
-  pub next : ℕ
+pub use Rattle.pg_aiger.specs.declared.gate.Latch.{Latch}
 
 -- What the lines say. A literal is twice its variable, plus one if it is negated.
 pub record Circuit : Type 0 where

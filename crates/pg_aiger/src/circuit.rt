@@ -41,6 +41,13 @@ impl Model for Circuit {
 }
 
 impl Circuit {
+    /// How many inputs there are, the literals that latches take over, those of the outputs, and the gates.
+    pub fn parts(&self) -> (u32, &[u32], &[u32], &[Gate])
+        ensures { self.now ≡ circuit_in_order result.0 result.1.now result.2.now result.3.now }
+    {
+        (self.inputs, &self.nexts, &self.outputs, &self.gates)
+    }
+
     /// One step: the output letter at an input letter. Bit j of `inputs` is the j-th input, bit j of `bits` the j-th latch, before
     /// the call and after it; further bits are ignored. A run begins with no bit set.
     ///

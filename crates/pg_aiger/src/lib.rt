@@ -11,5 +11,6 @@ mod table;
 
 pub use circuit::{Circuit, circuit_of};
 pub use fault::AigerFault;
+pub use gate::{Gate, Latch};
 pub use layout::write_circuit;
 pub use pg_synth::{InputWord, Word};

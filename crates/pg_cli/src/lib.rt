@@ -9,9 +9,9 @@ mod working;
 
 pub use apart::{Programs, run_apart};
 pub use pg_cli_command::{
-    CliFault, Command, MOST_BYTES, check_texts, exit_code, laws, read_input, replay_texts, winners,
-    write_fault,
+    CliFault, Command, MOST_BYTES, check_texts, exit_code, laws, part_texts, read_input,
+    replay_texts, winners, write_fault,
 };
 pub use pg_cli_words::{Invocation, parse_words};
-pub use program::{answer, run, run_with, write_answer};
+pub use program::{answer, run, run_with, verify_texts, write_answer};
 pub use working::work;

@@ -7,7 +7,7 @@ ghost use Rattle.pg_cli.specs.Linked.{IsLeastOverTold};
 ghost use Rattle.pg_cli.specs.Mirrors.Finding.{IsFoundIf};
 
 use pg_arena::{Game, dual};
-use pg_cli_command::{Solver, Maps};
+use pg_cli_command::{Maps, Solver};
 use pg_cli_in_one_piece::InOnePiece;
 use pg_coord::{Link, solve, solve_within};
 use pg_coord_partition::fits_worker;

@@ -1,16 +1,19 @@
 //! A command from its input to its answer.
 
-ghost use Rattle.std.specs.Prelude.{◌≡◌, ◌≢◌, ◌+◌, ◌≤◌, ℕ, List, length, All, IfOk, OnOk, IfSome, IsNone, IfErr};
+ghost use Rattle.std.specs.Prelude.{◌≡◌, ◌≢◌, ◌+◌, ◌≤◌, ℕ, List, length, ◌⊎◌, All, IfOk, OnOk, IfSome, IsNone, IfErr};
 ghost use Rattle.std.specs.Io.KnownBytes.{Appends};
 ghost use Rattle.pg_cli_command.specs.Input.{StaysWithin};
 ghost use Rattle.pg_cli_command.specs.Measuring.{IsClosedMapOf, IsMeasureOf, IsMeasured};
 ghost use Rattle.pg_cli_command.specs.Answers.{Answers, Prints, Refuses};
+ghost use Rattle.pg_cli_command.specs.Parts.{AreApart};
+ghost use Rattle.pg_cli_command.specs.Verifying.{IsVerified, RefusesVerify};
 ghost use Rattle.pg_cli_words.specs.Commands.{workers_of};
 ghost use Rattle.pg_cli.specs.Linked.{IsLeastOverTold};
 ghost use Rattle.pg_cli_words.specs.Words.{HasFewWorkers};
 
 use crate::over_links::{OverLinks, Rounds};
 use pg_cli_command::{CliFault, Command, MOST_BYTES, read_input, run_by};
+use pg_cli_in_one_piece::InOnePiece;
 use pg_coord::{Link, MemoryLink};
 use std::alloc::{AllocError, Global};
 use std::io::{Read, Write};
@@ -95,6 +98,21 @@ pub fn answer(alloc: Global, command: Command, text: Vec<u8>) -> Result<Vec<u8>,
         Err(CliFault::Write) => Err(CliFault::OutOfMemory),
         Err(fault) => Err(fault),
     }
+}
+
+/// What `verify` prints of an automaton and a circuit in two texts, which nothing has to part; its game is solved in one piece. Refuses
+/// what `pg_cli_command::verify_texts` does.
+pub fn verify_texts(
+    alloc: Global,
+    by_place: bool,
+    first: Vec<u8>,
+    second: Vec<u8>,
+) -> Result<Vec<u8>, CliFault>
+    ensures answer { IfOk result (λ output. IsVerified (AreApart first.items second.items) by_place output.items) }
+    ensures refused { IfErr result (λ fault. (fault ≡ CliFault.OutOfMemory)
+        ⊎ RefusesVerify IsMeasureOf (AreApart first.items second.items) by_place fault) }
+{
+    pg_cli_command::verify_texts(alloc, by_place, first, second, &mut InOnePiece)
 }
 
 /// Writes the answer to a text over the links that are given, by so many rounds.

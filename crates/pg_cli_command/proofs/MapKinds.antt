@@ -5,7 +5,12 @@ use Rattle.pg_cli_command.proofs.Common.{RefusesSolve, IsWonFor, IsRealized, IsS
 use Rattle.pg_cli_command.proofs.Common.{Meaning, meaning_of, PrintsBy, RefusesBy, Answers, Command, Measure, Solve, SolveAny, CliFault}
 use Rattle.pg_aiger.specs.declared.fault.AigerFault.TheVariants as aiger
 use Rattle.pg_synth.specs.declared.fault.SynthFault.TheVariants as synth
-use Rattle.pg_cli_words.specs.declared.command.Command.TheVariants.{Synth}
+use Rattle.pg_cli_words.specs.declared.command.Command.TheVariants.{Synth, SynthSmall, Verify}
+use Rattle.pg_verify.specs.declared.fault.VerifyFault.TheVariants as verify
+use Rattle.pg_cli_command.specs.Parts.{Parting, IsParted}
+use Rattle.pg_cli_command.specs.Synthesising.{IsSynthesisedSmall}
+use Rattle.pg_cli_command.specs.Verifying.{RefusesVerify}
+use Rattle.std.specs.Prelude.{Bool}
 use Rattle.pg_cli_command.specs.declared.fault.CliFault.TheVariants as cli
 
 -- the least progress measure is closed
@@ -104,11 +109,27 @@ module _ (Kind Other : MapKind) (is_other : (game : List GameVertex) (map : MapV
   unsynthesised_too input (cli.Aiger aiger.TooLarge) why = large_too input why
   unsynthesised_too input _ why = why
 
+  unverified_too : (Parts : Parting) (by_place : Bool) (fault : CliFault) → RefusesVerify Kind Parts by_place fault
+      → RefusesVerify Other Parts by_place fault
+  unverified_too Parts by_place (cli.Undecided id) why = (why.0, undecided_in_too why.0 id why.1)
+  unverified_too Parts by_place (cli.Verify verify.TooLarge) why = why
+  unverified_too Parts by_place (cli.Synth synth.TooLarge) why = why
+  unverified_too Parts by_place _ why = why
+
+  synthesised_small_too : (input output : List ℕ) → IsSynthesisedSmall Kind input output → IsSynthesisedSmall Other input output
+  synthesised_small_too input output (inl small) = inl small
+  synthesised_small_too input output (inr printed) = inr (synthesised_too input output printed)
+
   says_too : (command : Command) (input : List ℕ) → SaysToo (meaning_of Kind command input) (meaning_of Other command input)
   says_too (Measure workers) input = record { prints = measured_too input; refuses = λ fault why. why }
   says_too (Solve workers) input = record { prints = solved_too input; refuses = unsolved_too input }
   says_too (SolveAny workers) input = record { prints = λ output a. a; refuses = unsolved_too input }
   says_too (Synth workers) input = record { prints = synthesised_too input; refuses = unsynthesised_too input }
+  says_too (SynthSmall workers) input = record { prints = synthesised_small_too input; refuses = unsynthesised_too input }
+  says_too (Verify workers by_place) input = record {
+    prints = λ output a. a;
+    refuses = unverified_too (IsParted input) by_place;
+  }
   says_too _ input = record { prints = λ output a. a; refuses = λ fault why. why }
 
   pub prints_too : (command : Command) (input output : List ℕ) → PrintsBy Kind command input output → PrintsBy Other command input output

@@ -7,9 +7,10 @@ use Rattle.pg_cli_command.specs.Solving.{IsSolved, IsSolvedAnyhow, RefusesSolve}
 use Rattle.pg_cli_command.specs.Checking.{IsChecked, RefusesCheck}
 use Rattle.pg_cli_command.specs.Replaying.{IsReplayed, RefusesReplay}
 use Rattle.pg_cli_command.specs.Making.{IsMade, RefusesGame}
-use Rattle.pg_cli_command.specs.Synthesising.{IsSynthesised, RefusesSynth}
+use Rattle.pg_cli_command.specs.Synthesising.{IsSynthesised, IsSynthesisedSmall, RefusesSynth}
+use Rattle.pg_cli_command.specs.Verifying.{IsVerified, RefusesVerify}
 use Rattle.pg_cli_words.specs.declared.command.Command.{Command}
-use Rattle.pg_cli_words.specs.declared.command.Command.TheVariants.{Measure, Solve, SolveAny, Check, Replay, Game, Synth}
+use Rattle.pg_cli_words.specs.declared.command.Command.TheVariants.{Measure, Solve, SolveAny, Check, Replay, Game, Synth, SynthSmall, Verify}
 use Rattle.pg_cli_command.specs.declared.fault.CliFault.{CliFault}
 use Rattle.pg_cli_command.specs.declared.fault.CliFault.TheVariants.{OutOfMemory, Read, Write, InputTooLong}
 
@@ -27,6 +28,11 @@ meaning_of Kind Check input = record { prints = IsChecked (IsParted input); refu
 meaning_of Kind Replay input = record { prints = IsReplayed (IsParted input); refuses = RefusesReplay (IsParted input) }
 meaning_of Kind Game input = record { prints = IsMade input; refuses = RefusesGame input }
 meaning_of Kind (Synth workers) input = record { prints = IsSynthesised Kind input; refuses = RefusesSynth Kind input }
+meaning_of Kind (SynthSmall workers) input = record { prints = IsSynthesisedSmall Kind input; refuses = RefusesSynth Kind input }
+meaning_of Kind (Verify workers by_place) input = record {
+  prints = IsVerified (IsParted input) by_place;
+  refuses = RefusesVerify Kind (IsParted input) by_place;
+}
 
 -- The command prints the output: the input keeps the limit, and the output is the answer to it.
 pub record PrintsBy (Kind : MapKind) (command : Command) (input output : List ℕ) : Type 0 where

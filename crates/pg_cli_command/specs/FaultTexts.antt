@@ -10,9 +10,15 @@ use Rattle.pg_wire.specs.declared.fault.WireFault.TheVariants as wire
 use Rattle.pg_hoa.specs.FaultTexts as hoa
 use Rattle.pg_synth.specs.FaultTexts as synth
 use Rattle.pg_aiger.specs.FaultTexts as aiger
+use Rattle.pg_aiger_reader.specs.FaultTexts as reader
+use Rattle.pg_aiger_netlist.specs.declared.fault.NetlistFault.{NetlistFault}
+use Rattle.pg_aiger_netlist.specs.declared.fault.NetlistFault.TheVariants as netlist
+use Rattle.pg_verify.specs.declared.fault.VerifyFault.{VerifyFault}
+use Rattle.pg_verify.specs.declared.fault.VerifyFault.TheVariants as verify
 use Rattle.pg_cli_command.specs.declared.fault.CliFault.{CliFault}
 use Rattle.pg_cli_command.specs.declared.fault.CliFault.TheVariants.{OutOfMemory, Read, Write, InputTooLong, NoSeparator, Text, Script, World}
 use Rattle.pg_cli_command.specs.declared.fault.CliFault.TheVariants.{CutMismatch, Undecided, Hoa, Synth, Aiger, Listen, Connect, Worker}
+use Rattle.pg_cli_command.specs.declared.fault.CliFault.TheVariants.{Circuit, Tie, Netlist, Verify}
 
 -- what is told of the event at this place
 abbrev pub at_event : ℕ → List ℕ → List ℕ
@@ -36,6 +42,18 @@ worker_text worker.Order = codes "worker fault 4"
 worker_text (worker.Wire wire.OutOfMemory) = codes "out of memory"
 worker_text (worker.Wire fault) = codes "worker fault 5"
 
+-- what is wrong with the lines of a circuit
+abbrev pub netlist_text : NetlistFault → List ℕ
+netlist_text netlist.OutOfMemory = codes "out of memory"
+netlist_text (netlist.NotAVariable literal) = codes "literal " ++ (decimal literal ++ codes " of the circuit defines no variable")
+netlist_text (netlist.DefinedTwice variable) = codes "variable " ++ (decimal variable ++ codes " of the circuit is defined twice")
+netlist_text (netlist.Undefined variable) = codes "variable " ++ (decimal variable ++ codes " of the circuit is used and not defined")
+netlist_text (netlist.Cycle variable) = codes "the gate of variable " ++ (decimal variable ++ codes " stands in a cycle")
+
+abbrev pub verify_text : VerifyFault → List ℕ
+verify_text verify.OutOfMemory = codes "out of memory"
+verify_text verify.TooLarge = codes "circuit and automaton too large together"
+
 abbrev pub fault_text : CliFault → List ℕ
 fault_text OutOfMemory = codes "out of memory"
 fault_text Read = codes "cannot read the input"
@@ -50,6 +68,10 @@ fault_text (Undecided id) = codes "undecided at " ++ decimal id
 fault_text (Hoa fault) = hoa.fault_text fault
 fault_text (Synth fault) = synth.fault_text fault
 fault_text (Aiger fault) = aiger.fault_text fault
+fault_text (Circuit fault) = reader.reader_fault_text fault
+fault_text (Tie fault) = reader.tie_fault_text fault
+fault_text (Netlist fault) = netlist_text fault
+fault_text (Verify fault) = verify_text fault
 fault_text Listen = codes "cannot listen on 127.0.0.1"
 fault_text (Connect port) = codes "cannot connect to port " ++ decimal port
 fault_text (Worker fault) = worker_text fault

@@ -15,10 +15,19 @@ use Rattle.pg_synth.specs.declared.fault.SynthFault.{SynthFault}
 use Rattle.pg_synth.specs.declared.fault.SynthFault.TheVariants as synth
 use Rattle.pg_aiger.specs.declared.fault.AigerFault.{AigerFault}
 use Rattle.pg_aiger.specs.declared.fault.AigerFault.TheVariants as aiger
+use Rattle.pg_aiger_reader.specs.declared.fault.ReaderFault.{ReaderFault}
+use Rattle.pg_aiger_reader.specs.declared.fault.ReaderFault.TheVariants as reader
+use Rattle.pg_aiger_reader.specs.declared.fault.TieFault.{TieFault}
+use Rattle.pg_aiger_reader.specs.declared.fault.TieFault.TheVariants as tie
+use Rattle.pg_aiger_netlist.specs.declared.fault.NetlistFault.{NetlistFault}
+use Rattle.pg_aiger_netlist.specs.declared.fault.NetlistFault.TheVariants as netlist
+use Rattle.pg_verify.specs.declared.fault.VerifyFault.{VerifyFault}
+use Rattle.pg_verify.specs.declared.fault.VerifyFault.TheVariants as verify
 use Rattle.pg_worker.specs.declared.fault.WorkerFault.{WorkerFault}
 use Rattle.pg_worker.specs.declared.fault.WorkerFault.TheVariants as worker
 use Rattle.pg_cli_command.specs.declared.fault.CliFault.TheVariants.{OutOfMemory, Write, Text, Script, World}
 use Rattle.pg_cli_command.specs.declared.fault.CliFault.TheVariants.{Undecided, Hoa, Synth, Aiger, Worker}
+use Rattle.pg_cli_command.specs.declared.fault.CliFault.TheVariants.{Circuit, Tie, Netlist, Verify}
 
 -- want of memory and the writer's failure are the program's own
 abbrev pub text_fault : TextFault → CliFault
@@ -53,6 +62,23 @@ abbrev pub aiger_fault : AigerFault → CliFault
 aiger_fault aiger.OutOfMemory = OutOfMemory
 aiger_fault aiger.Write = Write
 aiger_fault fault = Aiger fault
+
+-- and what the reader of circuits, the ties to an automaton, the look at gates and the product say
+abbrev pub circuit_fault : ReaderFault → CliFault
+circuit_fault reader.OutOfMemory = OutOfMemory
+circuit_fault fault = Circuit fault
+
+abbrev pub tie_fault : TieFault → CliFault
+tie_fault tie.OutOfMemory = OutOfMemory
+tie_fault fault = Tie fault
+
+abbrev pub netlist_fault : NetlistFault → CliFault
+netlist_fault netlist.OutOfMemory = OutOfMemory
+netlist_fault fault = Netlist fault
+
+abbrev pub verify_fault : VerifyFault → CliFault
+verify_fault verify.OutOfMemory = OutOfMemory
+verify_fault fault = Verify fault
 
 -- and what a worker's serving ends with
 abbrev pub worker_fault : WorkerFault → CliFault

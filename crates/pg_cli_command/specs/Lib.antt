@@ -7,6 +7,7 @@ pub mod Checking
 pub mod Replaying
 pub mod Making
 pub mod Synthesising
+pub mod Verifying
 pub mod Answers
 pub mod Faults
 pub mod FaultTexts

@@ -3,5 +3,6 @@ pub mod Reading
 pub mod Parting
 pub mod Naming
 pub mod Unsolved
+pub mod Looking
 pub mod Synthesised
 pub mod Working

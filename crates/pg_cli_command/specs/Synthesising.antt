@@ -1,17 +1,19 @@
 -- What `synth` prints.
-use Rattle.std.specs.Prelude.{◌≡◌, ℕ, List, ◌++◌, ◌⊎◌, codes}
+use Rattle.std.specs.Prelude.{◌≡◌, ℕ, List, ◌++◌, ◌⊎◌, codes, length}
 use Rattle.pg_arena.specs.declared.player.Player.{Player}
 use Rattle.pg_arena.specs.declared.player.Player.TheVariants.{Even, Odd}
 use Rattle.pg_arena.specs.Games.{GameVertex, IsWithinLimits}
 use Rattle.pg_text.specs.declared.answer.Answer.{Answer}
 use Rattle.pg_hoa_automaton.specs.Automata.{Automaton, IsAutomaton}
 use Rattle.pg_hoa.specs.AutomatonText.{Spelt}
+use Rattle.pg_synth.specs.Letters.{inputs, outputs}
 use Rattle.pg_synth.specs.Machines.{Machine, Follows}
 use Rattle.pg_synth.specs.Laws.{IsWonBy}
 use Rattle.pg_synth.specs.declared.fault.SynthFault.TheVariants as synth
 use Rattle.pg_aiger.specs.Circuits.{Circuit}
 use Rattle.pg_aiger.specs.Machines.{IsCircuitOf, IsTooLarge}
 use Rattle.pg_aiger.specs.CircuitLayout.{circuit_text}
+use Rattle.pg_verify.specs.Verdicts.{IsCorrect}
 use Rattle.pg_aiger.specs.declared.fault.AigerFault.TheVariants as aiger
 use Rattle.pg_cli_command.specs.Measuring.{MapKind}
 use Rattle.pg_cli_command.specs.Solving.{IsSolvedBy, IsUndecidedIn}
@@ -61,6 +63,21 @@ pub record IsUnrealized (Kind : MapKind) (input output : List ℕ) : Type 0 wher
 
 abbrev pub IsSynthesised : MapKind → List ℕ → List ℕ → Type 0
 IsSynthesised Kind input output = IsRealized Kind input output ⊎ IsUnrealized Kind input output
+
+-- The input spells an automaton, and the output is that line and the text of a circuit with its propositions. Whatever the inputs, the
+-- circuit has exactly one run, and the automaton accepts it.
+pub record IsRealizedSmall (input output : List ℕ) : Type 0 where
+  pub automaton : Automaton
+  pub spelt : Spelt input automaton
+  pub circuit : Circuit
+  pub inputs : length circuit.inputs ≡ inputs automaton.controllable
+  pub outputs : length circuit.outputs ≡ outputs automaton.controllable
+  pub correct : IsCorrect automaton spelt.says.condition circuit
+  pub printed : output ≡ realizable ++ circuit_text circuit automaton
+
+-- What `synth --small` prints: such a circuit, or what `synth` prints.
+abbrev pub IsSynthesisedSmall : MapKind → List ℕ → List ℕ → Type 0
+IsSynthesisedSmall Kind input output = IsRealizedSmall input output ⊎ IsSynthesised Kind input output
 
 -- The input spells an automaton, whose game is within the limits. The vertex with this identifier is the least at which a
 -- map of this game and one of its dual, both of the kind, are both top.

@@ -4,14 +4,18 @@ ghost use Rattle.std.specs.Prelude.{◌≡◌, Some, OnOk};
 ghost use Rattle.std.specs.Io.KnownBytes.{Appends};
 ghost use Rattle.pg_cli_command.specs.Faults.{text_fault, script_fault, event_fault, check_fault};
 ghost use Rattle.pg_cli_command.specs.Faults.{hoa_fault, synth_fault, aiger_fault, worker_fault, status_of};
+ghost use Rattle.pg_cli_command.specs.Faults.{circuit_fault, tie_fault, netlist_fault, verify_fault};
 ghost use Rattle.pg_cli_command.specs.FaultTexts.{fault_text, fault_line};
 ghost use Rattle.pg_cli_command.specs.declared.fault.CliFault.TheVariants as cli;
 
 use pg_aiger::AigerFault;
+use pg_aiger_netlist::NetlistFault;
+use pg_aiger_reader::{ReaderFault, TieFault};
 use pg_check::CheckFault;
 use pg_hoa::HoaFault;
 use pg_synth::SynthFault;
 use pg_text::TextFault;
+use pg_verify::VerifyFault;
 use pg_wire::WireFault;
 use pg_worker::WorkerFault;
 use pg_world::{ScriptFault, WorldFault};
@@ -51,6 +55,14 @@ pub enum CliFault {
     Synth(SynthFault),
     /// The circuit of a controller is too large; never `OutOfMemory` or `Write`.
     Aiger(AigerFault),
+    /// A text spells no circuit; never `OutOfMemory`.
+    Circuit(ReaderFault),
+    /// A circuit's inputs and outputs aren't the propositions of an automaton; never `OutOfMemory`.
+    Tie(TieFault),
+    /// The lines of a circuit contradict one another, or its gates have a cycle; never `OutOfMemory`.
+    Netlist(NetlistFault),
+    /// The product of a circuit and an automaton is too large; never `OutOfMemory`.
+    Verify(VerifyFault),
     /// No port of 127.0.0.1 could be listened at.
     Listen,
     /// Nobody could be reached at this port of 127.0.0.1.
@@ -88,6 +100,30 @@ impl fmt::Display for CliFault {
             CliFault::Hoa(fault) => write!(f, "{fault}"),
             CliFault::Synth(fault) => write!(f, "{fault}"),
             CliFault::Aiger(fault) => write!(f, "{fault}"),
+            CliFault::Circuit(fault) => write!(f, "{fault}"),
+            CliFault::Tie(fault) => write!(f, "{fault}"),
+            CliFault::Netlist(fault) => match fault {
+                NetlistFault::OutOfMemory => f.write_str("out of memory"),
+                NetlistFault::NotAVariable(literal) => {
+                    write!(f, "literal {literal} of the circuit defines no variable")
+                }
+                NetlistFault::DefinedTwice(variable) => {
+                    write!(f, "variable {variable} of the circuit is defined twice")
+                }
+                NetlistFault::Undefined(variable) => {
+                    write!(
+                        f,
+                        "variable {variable} of the circuit is used and not defined"
+                    )
+                }
+                NetlistFault::Cycle(variable) => {
+                    write!(f, "the gate of variable {variable} stands in a cycle")
+                }
+            },
+            CliFault::Verify(fault) => match fault {
+                VerifyFault::OutOfMemory => f.write_str("out of memory"),
+                VerifyFault::TooLarge => f.write_str("circuit and automaton too large together"),
+            },
             CliFault::Listen => f.write_str("cannot listen on 127.0.0.1"),
             CliFault::Connect(port) => write!(f, "cannot connect to port {port}"),
             CliFault::Worker(fault) => match fault {
@@ -195,6 +231,50 @@ impl From<AigerFault> for CliFault {
             AigerFault::OutOfMemory => CliFault::OutOfMemory,
             AigerFault::Write => CliFault::Write,
             AigerFault::TooLarge => CliFault::Aiger(fault),
+        }
+    }
+}
+
+impl From<ReaderFault> for CliFault {
+    ghost from_gives = { λ fault e. e ≡ circuit_fault fault };
+
+    fn from(fault: ReaderFault) -> CliFault {
+        match fault {
+            ReaderFault::OutOfMemory => CliFault::OutOfMemory,
+            _ => CliFault::Circuit(fault),
+        }
+    }
+}
+
+impl From<TieFault> for CliFault {
+    ghost from_gives = { λ fault e. e ≡ tie_fault fault };
+
+    fn from(fault: TieFault) -> CliFault {
+        match fault {
+            TieFault::OutOfMemory => CliFault::OutOfMemory,
+            _ => CliFault::Tie(fault),
+        }
+    }
+}
+
+impl From<NetlistFault> for CliFault {
+    ghost from_gives = { λ fault e. e ≡ netlist_fault fault };
+
+    fn from(fault: NetlistFault) -> CliFault {
+        match fault {
+            NetlistFault::OutOfMemory => CliFault::OutOfMemory,
+            _ => CliFault::Netlist(fault),
+        }
+    }
+}
+
+impl From<VerifyFault> for CliFault {
+    ghost from_gives = { λ fault e. e ≡ verify_fault fault };
+
+    fn from(fault: VerifyFault) -> CliFault {
+        match fault {
+            VerifyFault::OutOfMemory => CliFault::OutOfMemory,
+            VerifyFault::TooLarge => CliFault::Verify(fault),
         }
     }
 }

@@ -4,7 +4,6 @@
 
 mod check;
 mod fault;
-mod solver;
 mod game;
 mod input;
 pub mod laws;
@@ -14,14 +13,17 @@ mod parts;
 mod printing;
 mod program;
 mod replay;
-mod solve;
 mod solution;
+mod solve;
+mod solver;
 mod synth;
+mod verify;
 pub mod winners;
 mod world_output;
 
 pub use fault::{CliFault, exit_code, write_fault};
-pub use solver::{Solver, Maps};
 pub use input::{MOST_BYTES, read_input};
+pub use parts::part_texts;
 pub use pg_cli_words::Command;
-pub use program::{answer, check_texts, replay_texts, run_by};
+pub use program::{answer, check_texts, replay_texts, run_by, verify_texts};
+pub use solver::{Maps, Solver};

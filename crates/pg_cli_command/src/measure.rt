@@ -6,9 +6,9 @@ ghost use Rattle.pg_cli_command.specs.Measuring.{IsMeasured, RefusesMeasure, mea
 ghost use Rattle.pg_cli_command.specs.Mirrors.Working.{ShowsWhat, Fails};
 
 use crate::fault::CliFault;
-use crate::solver::Solver;
 use crate::output::write_measure_line;
 use crate::printing::Answer;
+use crate::solver::Solver;
 use pg_arena::{Game, Vertex};
 use pg_map::Measures;
 use pg_text::read_game;

@@ -1,10 +1,12 @@
 //! The two texts of a command.
 
-ghost use Rattle.std.specs.Prelude.{◌≡◌, ℕ, List, IfSome, IfNone};
+ghost use Rattle.std.specs.Prelude.{◌≡◌, ℕ, List, ◌⊎◌, IfSome, IfNone, IfOk, IfErr};
 ghost use Rattle.pg_cli_command.specs.Parts.{IsParted};
 ghost use Rattle.pg_cli_command.specs.Mirrors.Parting.{parting_of};
 
+use crate::fault::CliFault;
 use memchr::memmem;
+use std::alloc::Global;
 
 /// What stands between the two texts: the newline that ends the first one, and a line of two hyphens.
 const SEPARATOR: &[u8] = b"\n--\n";
@@ -17,6 +19,21 @@ fn part(input: &[u8]) -> Option<(&[u8], &[u8])>
 {
     let place = memmem::find(input, SEPARATOR)?;
     Some((&input[..place + 1], &input[place + SEPARATOR.len()..]))
+}
+
+/// The two texts of an input, each by itself. Refuses `NoSeparator` where no line `--` parts them, and `OutOfMemory`.
+pub fn part_texts(alloc: Global, input: &[u8]) -> Result<(Vec<u8>, Vec<u8>), CliFault>
+    ensures parted { IfOk result (λ texts. IsParted input.now texts.0.items texts.1.items) }
+    ensures refused { IfErr result (λ fault. (fault ≡ CliFault.OutOfMemory)
+        ⊎ ((fault ≡ CliFault.NoSeparator) × ((first second : List ℕ) → ¬ IsParted input.now first second))) }
+{
+    match part(input) {
+        None => Err(CliFault::NoSeparator),
+        Some((first, second)) => Ok((
+            Vec::from_slice(alloc, first)?,
+            Vec::from_slice(alloc, second)?,
+        )),
+    }
 }
 
 /// The two texts that a command is given.

@@ -7,12 +7,12 @@ ghost use Rattle.pg_cli_command.specs.Parts.{AreApart};
 ghost use Rattle.pg_cli_command.specs.Measuring.{IsMeasured};
 ghost use Rattle.pg_cli_command.specs.Checking.{IsChecked, RefusesCheck};
 ghost use Rattle.pg_cli_command.specs.Replaying.{IsReplayed, RefusesReplay};
+ghost use Rattle.pg_cli_command.specs.Verifying.{IsVerified, RefusesVerify};
 ghost use Rattle.pg_cli_command.specs.Answers.{Answers};
 ghost use Rattle.pg_cli_words.specs.Commands.{workers_of};
 
 use crate::check::check;
 use crate::fault::CliFault;
-use crate::solver::Solver;
 use crate::game::game;
 use crate::input::{MOST_BYTES, read_input};
 use crate::measure::measure;
@@ -20,7 +20,9 @@ use crate::parts::Texts;
 use crate::printing::print;
 use crate::replay::replay;
 use crate::solve::{solve, solve_any};
-use crate::synth::synth;
+use crate::solver::Solver;
+use crate::synth::{synth, synth_small};
+use crate::verify::verify;
 use pg_cli_words::Command;
 use std::alloc::Global;
 use std::io::{Read, Write};
@@ -51,6 +53,11 @@ pub fn answer<F: Solver, W: Write>(
         Command::Replay => print(replay(alloc, Texts::Joined(text)), writer),
         Command::Game => print(game(alloc, text), writer),
         Command::Synth { .. } => print(synth(alloc, text, solver), writer),
+        Command::SynthSmall { .. } => print(synth_small(alloc, text, solver), writer),
+        Command::Verify { by_place, .. } => print(
+            verify(alloc, Texts::Joined(text), by_place, solver),
+            writer,
+        ),
     }
 }
 
@@ -65,6 +72,31 @@ pub fn check_texts(alloc: Global, first: Vec<u8>, second: Vec<u8>) -> Result<Vec
     match print(check(alloc, Texts::Apart(first, second)), &mut output) {
         Ok(()) => Ok(output),
         // A write to memory fails for want of it alone.
+        Err(CliFault::Write) => Err(CliFault::OutOfMemory),
+        Err(fault) => Err(fault),
+    }
+}
+
+/// What `verify` prints of an automaton and a circuit in two texts, which nothing has to part. Refuses `Hoa` for the first text, `Circuit`
+/// for the second, `Tie`, `Netlist`, `Verify` and `Synth` for what is too large, `Undecided`, and `OutOfMemory`.
+pub fn verify_texts<F: Solver>(
+    alloc: Global,
+    by_place: bool,
+    first: Vec<u8>,
+    second: Vec<u8>,
+    solver: &mut F,
+) -> Result<Vec<u8>, CliFault>
+    ensures answer { IfOk result (λ output. IsVerified (AreApart first.items second.items) by_place output.items) }
+    ensures refused { IfErr result (λ fault. (fault ≡ CliFault.OutOfMemory)
+        ⊎ RefusesVerify (F.finds solver.old) (AreApart first.items second.items) by_place fault) }
+{
+    let mut output = Vec::new(alloc);
+    match print(
+        verify(alloc, Texts::Apart(first, second), by_place, solver),
+        &mut output,
+    ) {
+        Ok(()) => Ok(output),
+        // A write to memory fails only where memory runs out.
         Err(CliFault::Write) => Err(CliFault::OutOfMemory),
         Err(fault) => Err(fault),
     }

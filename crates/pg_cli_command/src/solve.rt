@@ -7,9 +7,9 @@ ghost use Rattle.pg_cli_command.specs.Solving.{IsSolved, IsSolvedAnyhow, Refuses
 ghost use Rattle.pg_cli_command.specs.Mirrors.Working.{ShowsWhat, Fails};
 
 use crate::fault::CliFault;
-use crate::solver::Solver;
 use crate::printing::Answer;
 use crate::solution::{any_solution_of, solution_of};
+use crate::solver::Solver;
 use pg_arena::Game;
 use pg_text::{Solution, read_game, write_solution};
 use std::alloc::Global;

@@ -7,9 +7,9 @@ ghost use Rattle.pg_cli_command.specs.Mirrors.Synthesised.{Fits, outcome_text};
 ghost use Rattle.pg_cli_command.specs.Mirrors.Working.{ShowsWhat, Fails};
 
 use crate::fault::CliFault;
-use crate::solver::Solver;
 use crate::printing::Answer;
 use crate::solution::solution_of;
+use crate::solver::Solver;
 use pg_aiger::{AigerFault, Circuit, circuit_of, write_circuit};
 use pg_hoa::{Automaton, read_automaton};
 use pg_synth::{game_of, mealy_of};

@@ -100,17 +100,17 @@ fn size_in(alloc: Global, text: &[u8]) -> Option<Size> {
     size_of(alloc, &game).ok()
 }
 
-/// What is counted of the one text of a command: for two texts in it, the one before the line `--`.
-pub fn first_text(command: Command, text: &[u8]) -> &[u8] {
-    if !matches!(command, Command::Check) {
-        return text;
+/// What is counted of the one text of a command: for two texts in it, the one before the line `--` and the one behind.
+fn both_texts(command: Command, text: &[u8]) -> (&[u8], &[u8]) {
+    if !matches!(command, Command::Check | Command::Verify { .. }) {
+        return (text, &[]);
     }
     let place = text
         .windows(SEPARATOR.len())
         .position(|window| window == SEPARATOR);
     match place {
-        Some(place) => &text[..place + 1],
-        None => text,
+        Some(place) => (&text[..place + 1], &text[place + 1..]),
+        None => (text, &[]),
     }
 }
 
@@ -132,9 +132,10 @@ fn number_in(field: Option<&[u8]>) -> Option<usize> {
     str::from_utf8(field?).ok()?.parse().ok()
 }
 
-/// How many latches and gates the circuit has that stands behind the first line: `aag M I L O A`.
-fn parts_in(answer: &[u8]) -> Option<Parts> {
-    let line = answer.split(|byte| *byte == b'\n').nth(1)?;
+/// How many latches and gates the circuit of a text has, by its first line that begins so: `aag M I L O A`, or `aig` likewise.
+fn parts_in(text: &[u8]) -> Option<Parts> {
+    let line = text.split(|byte| *byte == b'\n').find(|line| line.starts_with(b"aag ")
+        || line.starts_with(b"aig "))?;
     let latches = number_in(line.split(|byte| *byte == b' ').nth(3))?;
     let gates = number_in(line.split(|byte| *byte == b' ').nth(5))?;
     Some(Parts { latches, gates })
@@ -148,7 +149,10 @@ fn tops_in(measures: &[u8]) -> usize {
 /// How many states the input of a command has, and how much there is of its game.
 fn counted(alloc: Global, command: Command, text: &[u8]) -> (Option<u32>, Option<Size>) {
     match command {
-        Command::Game | Command::Synth { .. } => {
+        Command::Game
+        | Command::Synth { .. }
+        | Command::SynthSmall { .. }
+        | Command::Verify { .. } => {
             let Ok(automaton) = read_automaton(alloc, text) else {
                 return (None, None);
             };
@@ -163,22 +167,37 @@ fn counted(alloc: Global, command: Command, text: &[u8]) -> (Option<u32>, Option
 }
 
 impl Figures {
-    /// What is counted of the text of a command, that of the game where there are two. The watch was started where reading began, and ends
-    /// that piece here.
+    /// What is counted of the text of a command. The watch was started where reading began, and ends that piece here.
     pub fn of<R: Clock + AllocGlobal>(
         rt: &R,
         command: Command,
         text: &[u8],
+        watch: Watch,
+    ) -> Figures {
+        let (first, second) = both_texts(command, text);
+        Figures::of_both(rt, command, first, second, watch)
+    }
+
+    /// The same of two texts, of which the first is a game or an automaton.
+    pub fn of_both<R: Clock + AllocGlobal>(
+        rt: &R,
+        command: Command,
+        first: &[u8],
+        second: &[u8],
         mut watch: Watch,
     ) -> Figures {
         let read = watch.lap(rt);
-        let (states, size) = counted(rt.alloc(), command, text);
+        let (states, size) = counted(rt.alloc(), command, first);
+        let parts = match command {
+            Command::Verify { .. } => parts_in(second),
+            _ => None,
+        };
         watch.lap(rt);
         Figures {
             states,
             size,
             wins: None,
-            parts: None,
+            parts,
             read,
             answered: Duration::ZERO,
             written: None,
@@ -191,7 +210,7 @@ impl Figures {
         self.answered = self.watch.lap(rt);
         match command {
             Command::Solve { .. } | Command::SolveAny { .. } => self.wins = Some(wins_in(answer)),
-            Command::Synth { .. } => self.parts = parts_in(answer),
+            Command::Synth { .. } | Command::SynthSmall { .. } => self.parts = parts_in(answer),
             Command::Measure { .. } => self.set_tops(tops_in(answer)),
             _ => (),
         }

@@ -5,5 +5,5 @@
 mod figures;
 mod notes;
 
-pub use figures::{CountedTops, Figures, Watch, first_text};
+pub use figures::{CountedTops, Figures, Watch};
 pub use notes::Notes;

@@ -20,7 +20,13 @@ pub struct Notes {
 impl Notes {
     /// The notes on the input of a command: none where it is no automaton.
     pub fn of(command: Command, text: &[u8]) -> Notes {
-        let is_automaton = matches!(command, Command::Game | Command::Synth { .. });
+        let is_automaton = matches!(
+            command,
+            Command::Game
+                | Command::Synth { .. }
+                | Command::SynthSmall { .. }
+                | Command::Verify { .. }
+        );
         Notes {
             is_uncontrolled: is_automaton
                 && matches!(has_header(text, b"controllable-AP"), Ok(false)),

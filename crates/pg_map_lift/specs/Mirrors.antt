@@ -1,3 +1,4 @@
 -- What mirrors code: contracts of private functions cite it, and no definition that a reader has to believe does.
 pub mod Lifters
 pub mod Zeros
+pub mod Watches

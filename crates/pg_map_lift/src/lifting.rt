@@ -1,44 +1,50 @@
 //! Lines that are lifted.
 
-ghost use Rattle.std.specs.Prelude.{◌≡◌, ◌<◌, length, slice_set, IsSome, IfSome, IfNone, IfOk, MatchBool};
+ghost use Rattle.std.specs.Prelude.{◌≡◌, ◌<◌, ◌∷◌, ◌++◌, [], true, length, slice_set, Some, All, IsSome, IfSome, IfNone, IfOk, IsTrue, MatchBool, ◌↔◌};
 ghost use Rattle.std.specs.Bool.{OnTrue, OnFalse};
 ghost use Rattle.pg_measure.specs.Measures.{Fits, AtMost, IsBelow, owned};
 ghost use Rattle.pg_measure.specs.Views.{measure_in};
 ghost use Rattle.pg_map.specs.Lines.{AreWithin};
 ghost use Rattle.pg_map.specs.Maps.{measure_at, update_map, IsMap, IsJoin, IsLifted, IsServed, IsClosed};
 ghost use Rattle.pg_map_lift.specs.Mirrors.Lifters.{KeepsLines, Lifts};
+ghost use Rattle.pg_map_lift.specs.Mirrors.Watches.{IsWatch, ListsAll};
 
+use crate::part::{Part, PartLine};
+use crate::predecessors::Predecessors;
 use crate::queue::Queue;
+use crate::watch::{Watch, is_served, liftable_before};
 use pg_arena::Vertex;
 use pg_map::{Lines, MeasureMap, View};
 use pg_measure::{Bounds, Measure};
 use std::alloc::{AllocError, Global};
 use std::marker::Model;
 
-/// Lines and a map of their vertices, and a queue that proposes what to lift. Contracts see the lines and the map. Whoever adds a line
-/// writes the fields.
+/// Lines and a map of their vertices, and a queue that proposes what to lift. Contracts see the lines and the map.
 #[derive(Drop)]
 pub struct Lifter<G: Lines + Drop> {
-    pub lines: G,
+    lines: G,
     pub map: MeasureMap,
-    pub queue: Queue,
+    queue: Queue,
+    predecessors: Predecessors,
+    watch: Watch,
 }
 
 impl<G: Lines + Drop> Model for Lifter<G> {
-    ghost use Rattle.std.specs.Prelude.{length};
+    ghost use Rattle.std.specs.Prelude.{◌≡◌, true, length};
     ghost use Rattle.pg_map.specs.Lines.{AreWithin};
-    ghost use Rattle.pg_map_lift.specs.Mirrors.Lifters.{LifterValue};
+    ghost use Rattle.pg_map_lift.specs.Mirrors.Lifters.{LifterValue, IsLifter};
+    ghost use Rattle.pg_map_lift.specs.Mirrors.Watches.{IsWatch};
 
     ghost Value = { LifterValue G };
 
     ghost view = { λ l. record { lines = l.lines; map = l.map } };
 
-    ghost invariant = { λ l. AreWithin (length l.map.measures) (G.line l.lines) };
+    ghost invariant = { λ l. IsLifter (G.line l.lines) l.map l.predecessors.starts.items l.predecessors.sources.items
+        l.watch.is_on l.watch.risen.items };
 }
 
-/// A queue in which each of the lines waits.
-fn queue_of<G: Lines>(alloc: Global, lines: &G, vertices: u32) -> Result<Queue, AllocError> {
-    let mut queue = Queue::new(alloc, vertices)?;
+/// Lets each of the lines wait; answers how many edges they have.
+fn add_all<G: Lines>(queue: &mut Queue, lines: &G, vertices: u32) -> usize {
     let mut edges = 0usize;
     for number in (0..vertices).rev() {
         let v = Vertex(number);
@@ -47,14 +53,77 @@ fn queue_of<G: Lines>(alloc: Global, lines: &G, vertices: u32) -> Result<Queue, 
             queue.add(v);
         }
     }
-    queue.reserve(edges)?;
-    Ok(queue)
+    edges
 }
 
-/// Lifts the first vertex that can be lifted of those that the queue proposes, and else the least that can. None where none can be.
+/// Lifts the first vertex that can be lifted of those that the queue proposes.
 #[inline(always)]
-fn lift_one<G: Lines>(map: &mut MeasureMap, lines: &G, queue: &mut Queue) -> Option<Vertex>
+fn lift_proposed<G: Lines>(map: &mut MeasureMap, lines: &G, queue: &mut Queue) -> Option<Vertex>
     requires within { AreWithin (length map.old.measures) (G.line lines.now) }
+    ensures bounds { map.new.bounds ≡ map.old.bounds }
+    ensures size { length map.new.measures ≡ length map.old.measures }
+    ensures held { IfSome result (λ v. IsSome (G.line lines.now v)) }
+    ensures lifted { IfSome result (IsLifted map.old.bounds (G.line lines.now) map.old.measures map.new.measures) }
+    ensures same { IfNone result (map.new ≡ map.old) }
+{
+    'proposals: for _ in 0..u64::MAX {
+        let v = queue.next(map, lines)?;
+        if lines.holds(v) && map.lift(lines, v) {
+            return Some(v);
+        }
+    }
+    None
+}
+
+/// The first vertex that can be lifted of those that the queue proposes.
+fn liftable_proposed<G: Lines>(map: &MeasureMap, lines: &G, queue: &mut Queue) -> Option<Vertex>
+    requires { AreWithin (length map.now.measures) (G.line lines.now) }
+    ensures { IfSome result (λ v. IsSome (G.line lines.now v)
+        × ¬ (IsServed map.now.bounds (G.line lines.now) map.now.measures v)) }
+{
+    'proposals: for _ in 0..u64::MAX {
+        let v = queue.next(map, lines)?;
+        if lines.holds(v) && !is_served(map, lines, v) {
+            return Some(v);
+        }
+    }
+    None
+}
+
+/// A vertex that can be lifted; none exactly if the map is closed. While the watch is on, those alone are looked at that lead to a vertex
+/// that rose.
+fn liftable<G: Lines>(
+    map: &MeasureMap,
+    lines: &G,
+    predecessors: &Predecessors,
+    watch: &Watch,
+) -> Option<Vertex>
+    requires within { AreWithin (length map.now.measures) (G.line lines.now) }
+    requires watched { watch.now.is_on ≡ true → IsWatch map.now.bounds (G.line lines.now) map.now.measures
+        predecessors.now.starts.items predecessors.now.sources.items watch.now.risen.items }
+    ensures liftable { IfSome result (λ v. IsSome (G.line lines.now v)
+        × ¬ (IsServed map.now.bounds (G.line lines.now) map.now.measures v)) }
+    ensures closed { IfNone result (IsClosed map.now.bounds (G.line lines.now) map.now.measures) }
+{
+    if watch.is_on {
+        liftable_before(map, lines, predecessors, &watch.risen)
+    } else {
+        map.first_liftable(lines)
+    }
+}
+
+/// As `lift_proposed`; where nothing that is proposed can be lifted, a vertex that can. None where none can be.
+#[inline(always)]
+fn lift_one<G: Lines>(
+    map: &mut MeasureMap,
+    lines: &G,
+    queue: &mut Queue,
+    predecessors: &Predecessors,
+    watch: &Watch,
+) -> Option<Vertex>
+    requires within { AreWithin (length map.old.measures) (G.line lines.now) }
+    requires watched { watch.now.is_on ≡ true → IsWatch map.old.bounds (G.line lines.now) map.old.measures
+        predecessors.now.starts.items predecessors.now.sources.items watch.now.risen.items }
     ensures bounds { map.new.bounds ≡ map.old.bounds }
     ensures size { length map.new.measures ≡ length map.old.measures }
     ensures held { IfSome result (λ v. IsSome (G.line lines.now v)) }
@@ -62,28 +131,70 @@ fn lift_one<G: Lines>(map: &mut MeasureMap, lines: &G, queue: &mut Queue) -> Opt
     ensures same { IfNone result (map.new ≡ map.old) }
     ensures closed { IfNone result (IsClosed map.old.bounds (G.line lines.now) map.old.measures) }
 {
-    'proposals: for _ in 0..u64::MAX {
-        let Some(v) = queue.next(map, lines) else {
-            break;
-        };
-        if lines.holds(v) && map.lift(lines, v) {
-            return Some(v);
-        }
+    if let Some(v) = lift_proposed(map, lines, queue) {
+        return Some(v);
     }
-    let v = map.first_liftable(lines)?;
+    let v = liftable(map, lines, predecessors, watch)?;
     let _rose = map.lift(lines, v);
     Some(v)
 }
 
+/// Lets those wait that a vertex, which rose, no longer serves, and keeps that it rose.
+#[inline(always)]
+fn rise<G: Lines>(
+    map: &MeasureMap,
+    lines: &G,
+    queue: &mut Queue,
+    predecessors: &mut Predecessors,
+    watch: &mut Watch,
+    v: Vertex,
+)
+    ensures { watch.new.is_on ≡ true → (watch.old.is_on ≡ true)
+        × (watch.new.risen.items ≡ watch.old.risen.items ++ v ∷ []) × (predecessors.new ≡ predecessors.old) }
+{
+    watch.push(v);
+    if !watch.is_on {
+        predecessors.gather(lines);
+    }
+    queue.rise(map, lines, predecessors, v);
+}
+
+/// Begins a watch anew, where the predecessors are seen to be all there.
+fn begin_watch<G: Lines>(lines: &G, predecessors: &mut Predecessors, watch: &mut Watch, count: u32)
+    requires within { AreWithin count (G.line lines.now) }
+    requires listed { watch.old.is_on ≡ true → ListsAll predecessors.old.starts.items predecessors.old.sources.items (G.line lines.now) }
+    ensures { watch.new.is_on ≡ true → (watch.new.risen.items ≡ [])
+        × ListsAll predecessors.new.starts.items predecessors.new.sources.items (G.line lines.now) }
+{
+    if watch.is_on {
+        watch.begin();
+        return;
+    }
+    predecessors.gather(lines);
+    if predecessors.list_all(lines, count) {
+        watch.begin();
+    }
+}
+
 impl<G: Lines + Drop> Lifter<G> {
-    /// Lines, and a map that no call lifted yet. It is refused for want of memory only; after it no call takes memory.
+    /// Lines, and a map that no call lifted yet. It is refused where memory runs out only; lifts take none.
     pub fn new(alloc: Global, lines: G, map: MeasureMap) -> Result<Lifter<G>, AllocError>
         requires within { AreWithin (length map.measures) (G.line lines) }
         ensures lines { IfOk result (λ l. l.lines ≡ lines) }
         ensures map { IfOk result (λ l. l.map ≡ map) }
     {
-        let queue = queue_of(alloc, &lines, map.len())?;
-        Ok(Lifter { lines, map, queue })
+        let vertices = map.len();
+        let mut queue = Queue::new(alloc, vertices)?;
+        let mut predecessors = Predecessors::new(alloc, vertices)?;
+        predecessors.reserve(add_all(&mut queue, &lines, vertices))?;
+        let watch = Watch::new(alloc, vertices)?;
+        Ok(Lifter {
+            lines,
+            map,
+            queue,
+            predecessors,
+            watch,
+        })
     }
 
     /// How many vertices there are.
@@ -101,6 +212,13 @@ impl<G: Lines + Drop> Lifter<G> {
         ensures { result.now ≡ self.now.map.bounds }
     {
         self.map.bounds()
+    }
+
+    /// Whether the lines hold a vertex.
+    pub fn holds(&self, v: Vertex) -> bool
+        ensures { IsTrue result ↔ IsSome (G.line self.now.lines v) }
+    {
+        self.lines.holds(v)
     }
 
     /// Sets a measure with room for the bounds to that of a vertex.
@@ -125,11 +243,18 @@ impl<G: Lines + Drop> Lifter<G> {
         ensures join { IsJoin self.old.map.measures
             (update_map self.old.map.bounds (length self.old.map.measures) v (measure_in m.entry)) self.new.map.measures }
     {
-        let rose = self.map.raise(v, m);
-        if rose {
-            self.queue.rise(&self.map, &self.lines, v);
+        if !self.map.raise(v, m) {
+            return false;
         }
-        rose
+        rise(
+            &self.map,
+            &self.lines,
+            &mut self.queue,
+            &mut self.predecessors,
+            &mut self.watch,
+            v,
+        );
+        true
     }
 
     /// Lifts the next vertex that can be lifted. None where none can be.
@@ -139,8 +264,21 @@ impl<G: Lines + Drop> Lifter<G> {
         ensures closed { IfNone result ((self.new ≡ self.old)
             × IsClosed self.old.map.bounds (G.line self.old.lines) self.old.map.measures) }
     {
-        let v = lift_one(&mut self.map, &self.lines, &mut self.queue)?;
-        self.queue.rise(&self.map, &self.lines, v);
+        let v = lift_one(
+            &mut self.map,
+            &self.lines,
+            &mut self.queue,
+            &self.predecessors,
+            &self.watch,
+        )?;
+        rise(
+            &self.map,
+            &self.lines,
+            &mut self.queue,
+            &mut self.predecessors,
+            &mut self.watch,
+            v,
+        );
         Some(v)
     }
 
@@ -151,21 +289,74 @@ impl<G: Lines + Drop> Lifter<G> {
         ensures served { OnFalse result ((self.new ≡ self.old)
             × IsServed self.old.map.bounds (G.line self.old.lines) self.old.map.measures v) }
     {
-        let rose = self.map.lift(&self.lines, v);
-        if rose {
-            self.queue.rise(&self.map, &self.lines, v);
+        if !self.map.lift(&self.lines, v) {
+            return false;
         }
-        rose
+        rise(
+            &self.map,
+            &self.lines,
+            &mut self.queue,
+            &mut self.predecessors,
+            &mut self.watch,
+            v,
+        );
+        true
     }
 
     /// Whether no vertex can be lifted.
-    pub fn is_quiet(&self) -> bool
-        ensures { MatchBool result (IsClosed self.now.map.bounds (G.line self.now.lines) self.now.map.measures)
-            (¬ (IsClosed self.now.map.bounds (G.line self.now.lines) self.now.map.measures)) }
+    pub fn is_quiet(&mut self) -> bool
+        ensures same { self.new ≡ self.old }
+        ensures quiet { MatchBool result (IsClosed self.old.map.bounds (G.line self.old.lines) self.old.map.measures)
+            (¬ (IsClosed self.old.map.bounds (G.line self.old.lines) self.old.map.measures)) }
     {
-        match self.map.first_liftable(&self.lines) {
-            Some(_) => false,
-            None => true,
+        if let Some(v) = liftable_proposed(&self.map, &self.lines, &mut self.queue) {
+            self.queue.add(v);
+            return false;
         }
+        match liftable(&self.map, &self.lines, &self.predecessors, &self.watch) {
+            Some(_) => false,
+            None => {
+                self.watch();
+                true
+            }
+        }
+    }
+
+    /// Keeps from now on which vertices rise, where none can be lifted: looks then go over those alone that lead to these, as
+    /// long as there is room for them.
+    pub fn watch(&mut self)
+        requires { IsClosed self.old.map.bounds (G.line self.old.lines) self.old.map.measures }
+        ensures { self.new ≡ self.old }
+    {
+        begin_watch(
+            &self.lines,
+            &mut self.predecessors,
+            &mut self.watch,
+            self.map.len(),
+        );
+    }
+}
+
+impl Lifter<Part> {
+    /// Makes room for so many edges more.
+    pub fn reserve(&mut self, edges: usize) -> Result<(), AllocError>
+        ensures { self.new ≡ self.old }
+    {
+        self.watch.is_on = false;
+        self.predecessors.reserve(edges)
+    }
+
+    /// Adds the line of a vertex, for whose edges there is room.
+    pub fn add(&mut self, v: Vertex, line: PartLine)
+        requires size { length self.old.lines ≡ length self.old.map.measures }
+        requires v { v < length self.old.lines }
+        requires within { All (λ w. w < length self.old.lines) line.successors }
+        requires some { 0 < length line.successors }
+        ensures lines { self.new.lines ≡ slice_set self.old.lines v (Some line) }
+        ensures map { self.new.map ≡ self.old.map }
+    {
+        self.watch.is_on = false;
+        self.lines.put(v, line);
+        self.queue.add(v);
     }
 }

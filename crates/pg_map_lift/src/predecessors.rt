@@ -1,14 +1,21 @@
-//! Who leads to a vertex. Nothing is promised of it.
+//! Who leads to a vertex. What is gathered is only proposed: whether all are there is looked at.
+
+ghost use Rattle.std.specs.Prelude.{◌≡◌, slice_index_or};
+ghost use Rattle.std.specs.Bool.{OnTrue};
+ghost use Rattle.std.specs.List.{Contains};
+ghost use Rattle.pg_map.specs.Lines.{AreWithin};
+ghost use Rattle.pg_map_lift.specs.Mirrors.Watches.{sources_of, IsListed, ListsAll};
 
 use pg_arena::Vertex;
 use pg_map::Lines;
 use std::alloc::{AllocError, Global};
 
-/// The vertices that lead to each vertex of some lines, once they are gathered: those of `v` stand from `starts[v]` to `starts[v + 1]`.
+/// The vertices that lead to each vertex of some lines, once they are gathered: those of `v` stand from `starts[v]` to `starts[v + 1]`,
+/// and rise.
 #[derive(Drop)]
 pub(crate) struct Predecessors {
-    starts: Vec<usize>,
-    sources: Vec<Vertex>,
+    pub starts: Vec<usize>,
+    pub sources: Vec<Vertex>,
     is_gathered: bool,
 }
 
@@ -21,6 +28,18 @@ fn change(starts: &mut [usize], place: usize, by: usize) -> usize {
         }
         None => 0,
     }
+}
+
+/// Whether a vertex is found among others, which rise.
+fn is_listed(others: &[Vertex], v: Vertex) -> bool
+    ensures { OnTrue result (Contains others.now v) }
+{
+    if let Ok(at) = others.binary_search(&v) {
+        if others[at] == v {
+            return true;
+        }
+    }
+    false
 }
 
 impl Predecessors {
@@ -61,7 +80,7 @@ impl Predecessors {
             all = all.saturating_add(*start);
             *start = all;
         }
-        for number in 0..count {
+        for number in (0..count).rev() {
             let u = Vertex(number);
             if lines.holds(u) {
                 for w in lines.successors(u) {
@@ -74,11 +93,49 @@ impl Predecessors {
         }
     }
 
+    /// Where those that lead to this vertex begin.
+    fn start(&self, v: usize) -> usize
+        ensures { result ≡ slice_index_or self.now.starts.items v 0 }
+    {
+        if v < self.starts.len() {
+            self.starts[v]
+        } else {
+            0
+        }
+    }
+
     /// Those that lead to a vertex.
-    pub fn of(&self, v: Vertex) -> &[Vertex] {
-        let at = v.0 as usize;
-        let from = self.starts.get(at).copied().unwrap_or(0);
-        let to = self.starts.get(at + 1).copied().unwrap_or(0);
-        self.sources.get(from..to).unwrap_or(&[])
+    pub fn of(&self, v: Vertex) -> &[Vertex]
+        ensures { result.now ≡ sources_of self.now.starts.items self.now.sources.items v }
+    {
+        let to = self.start(v.0 as usize + 1).min(self.sources.len());
+        let from = self.start(v.0 as usize).min(to);
+        &self.sources[from..to]
+    }
+
+    /// Whether a vertex is listed as leading to each of the others.
+    fn list(&self, v: Vertex, others: &[Vertex]) -> bool
+        ensures { OnTrue result (IsListed self.now.starts.items self.now.sources.items v others.now) }
+    {
+        for w in others {
+            if !is_listed(self.of(*w), v) {
+                return false;
+            }
+        }
+        true
+    }
+
+    /// Whether each vertex of the lines is listed where it leads to.
+    pub fn list_all<G: Lines>(&self, lines: &G, count: u32) -> bool
+        requires { AreWithin count (G.line lines.now) }
+        ensures { OnTrue result (ListsAll self.now.starts.items self.now.sources.items (G.line lines.now)) }
+    {
+        for number in 0..count {
+            let v = Vertex(number);
+            if lines.holds(v) && !self.list(v, lines.successors(v)) {
+                return false;
+            }
+        }
+        true
     }
 }

@@ -23,12 +23,11 @@ struct Note {
 /// Vertices that wait to be looked at, each once: those of this generation, of which the last comes first, and those of the next one, which
 /// were lifted often in this one. So a lift is followed by those that it leads to, and no cycle keeps the others waiting.
 #[derive(Drop)]
-pub struct Queue {
+pub(crate) struct Queue {
     notes: Vec<Note>,
     stack: Stack,
     next: Stack,
     generation: u32,
-    predecessors: Predecessors,
 }
 
 /// A stack whose room is taken when it is made.
@@ -80,13 +79,7 @@ impl Queue {
             stack: Stack::new(alloc, count)?,
             next: Stack::new(alloc, count)?,
             generation: 0,
-            predecessors: Predecessors::new(alloc, count)?,
         })
-    }
-
-    /// Makes room for so many edges more. Nothing else takes memory.
-    pub fn reserve(&mut self, edges: usize) -> Result<(), AllocError> {
-        self.predecessors.reserve(edges)
     }
 
     /// Lets a vertex wait.
@@ -175,23 +168,25 @@ impl Queue {
     }
 
     /// Lets those wait that a vertex, which rose, no longer serves: all of Odd's, and of Even's those that none was found to serve.
-    pub(crate) fn rise<G: Lines>(&mut self, map: &MeasureMap, lines: &G, x: Vertex) {
+    pub(crate) fn rise<G: Lines>(
+        &mut self,
+        map: &MeasureMap,
+        lines: &G,
+        predecessors: &Predecessors,
+        x: Vertex,
+    ) {
         self.count(x);
-        self.predecessors.gather(lines);
-        for place in 0..self.predecessors.of(x).len() {
-            let Some(u) = self.predecessors.of(x).get(place).copied() else {
-                break;
-            };
-            if !lines.holds(u) || serves(map, lines, u, x) {
+        for u in predecessors.of(x) {
+            if !lines.holds(*u) || serves(map, lines, *u, x) {
                 continue;
             }
-            let last = lines.successors(u).get(self.stop(u)).copied();
+            let last = lines.successors(*u).get(self.stop(*u)).copied();
             let is_served = match last {
-                Some(w) => lines.owner(u) == Player::Even && serves(map, lines, u, w),
+                Some(w) => lines.owner(*u) == Player::Even && serves(map, lines, *u, w),
                 None => false,
             };
             if !is_served {
-                self.add(u);
+                self.add(*u);
             }
         }
     }

@@ -69,11 +69,9 @@ pub use Rattle.pg_wire.specs.declared.writer.ValuesWriter.{ValuesWriter}
 pub use Rattle.pg_worker.specs.Above.{AreFrames, IsAboveSession}
 pub use Rattle.pg_worker.specs.Laws.{AreSteps, IsAtLeastTaken, Lifted, RepliesStayUnder, Step, Taken, ToldStayUnder}
 pub use Rattle.pg_worker.specs.Mirrors.Faults.{own_fault}
-pub use Rattle.pg_worker.specs.Mirrors.Insides.{IsInside, IsNext, IsWhole, edge_count}
+pub use Rattle.pg_worker.specs.Mirrors.Insides.{IsNext, IsWhole}
 pub use Rattle.pg_worker.specs.Mirrors.Joins.{JoinsAll}
 pub use Rattle.pg_worker.specs.Mirrors.Lifts.{AreListedLifts}
-pub use Rattle.pg_worker.specs.Mirrors.Parts.{AreHeld, HasPlace, IsSpan, PartValue, head_line, held_line, line_from, line_in, lines_of}
-pub use Rattle.pg_worker.specs.Mirrors.Parts.{no_head}
 pub use Rattle.pg_worker.specs.Mirrors.Replies.{measures_of}
 pub use Rattle.pg_worker.specs.Mirrors.Sessions.{IsSmall}
 pub use Rattle.pg_worker.specs.Mirrors.Steps.{Answers, IsStep}
@@ -85,4 +83,3 @@ pub use Rattle.pg_worker.specs.Workers.{AreAbove, AreLifts, CanTake, FitsGame, I
 pub use Rattle.pg_worker.specs.Workers.{WorkerValue, part_line, with_lines}
 pub use Rattle.pg_worker.specs.declared.fault.WorkerFault.{WorkerFault}
 pub use Rattle.pg_worker.specs.declared.fault.WorkerFault.TheVariants.{BadUpdate, NotMine, Order, OutOfMemory, Wire}
-pub use Rattle.pg_worker.specs.declared.part.Head.{Head}

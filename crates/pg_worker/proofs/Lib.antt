@@ -1,8 +1,6 @@
-pub mod Parts
 pub mod Runs
 pub mod Working
 pub mod Steps
-pub mod NewLines
 pub mod Packing
 pub mod Joining
 pub mod Taking

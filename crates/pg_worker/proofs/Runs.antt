@@ -2,15 +2,15 @@
 use Rattle.pg_worker.proofs.Common.{◌≡◌, ℕ, ◌+◌, ◌⊎◌, List, [], ◌∷◌, ◌++◌, length, get_or, refl, sym, subst, ◌∙◌, arith, inl, inr, All, Any}
 use Rattle.pg_worker.proofs.Common.{Option, IsSome, Contains, cases_lt, get_or_push, get_or_default, get_or-append, BoundList, MeasureValue}
 use Rattle.pg_worker.proofs.Common.{owned, Line, measure_at, IsLifted, Update, IsLiftBy, AreLifts, LifterValue, KeepsLines, Lifts}
-use Rattle.pg_worker.proofs.Common.{AreListedLifts, PartValue, held_line}
+use Rattle.pg_worker.proofs.Common.{AreListedLifts, part_line}
 use Rattle.std.proofs.Common.{length-append}
 
-pub same_lines : (a b c : LifterValue PartValue) → KeepsLines a b → KeepsLines b c → KeepsLines a c
+pub same_lines : (a b c : LifterValue (List (Option Line))) → KeepsLines a b → KeepsLines b c → KeepsLines a c
 same_lines a b c p q = record { lines = q.lines ∙ p.lines; bounds = q.bounds ∙ p.bounds; size = q.size ∙ p.size }
 
 -- one more lift, of the lines of the first
-pub lift_on : (first old new : LifterValue PartValue) (v : ℕ) → KeepsLines first old → Lifts held_line old new v
-    → IsSome (held_line first.lines v) × IsLifted first.map.bounds (held_line first.lines) old.map.measures new.map.measures v
+pub lift_on : (first old new : LifterValue (List (Option Line))) (v : ℕ) → KeepsLines first old → Lifts part_line old new v
+    → IsSome (part_line first.lines v) × IsLifted first.map.bounds (part_line first.lines) old.map.measures new.map.measures v
 lift_on first old new v same l = (rw same.lines at l.held, rw (same.lines, same.bounds) at l.lifted)
 
 -- a lift more

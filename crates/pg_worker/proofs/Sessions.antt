@@ -10,15 +10,12 @@ use Rattle.pg_worker.proofs.Common.{lifted_measures, Replies, report_bytes, AreF
 use Rattle.pg_wire.specs.declared.frame.Frame.TheVariants as frames
 use Rattle.pg_worker.specs.declared.fault.WorkerFault.TheVariants as faults
 use Rattle.pg_wire.specs.declared.fault.WireFault.TheVariants as wire
+use Rattle.pg_worker.proofs.Working.{with_lines_size}
 use Rattle.pg_worker.proofs.Under.{told_stay_under}
 use Rattle.pg_worker.proofs.Framing.{no_frames, frames_then}
 use Rattle.pg_worker.proofs.Replies.{Tells, report_frame, go_tells}
 
 -- ---- sessions stay small
-
-with_lines_size : (lines : List (Option Line)) (ls : List VertexLine) → length (with_lines lines ls) ≡ length lines
-with_lines_size lines [] = refl
-with_lines_size lines (l ∷ ls) = with_lines_size (set lines l.vertex (Some (told_line l))) ls ∙ length-set lines l.vertex (Some (told_line l))
 
 fresh_small : (s : Setup) → IsSetup s → IsSmall (fresh s)
 fresh_small s w = record {

@@ -1,6 +1,5 @@
 -- What mirrors code: contracts of private functions cite it, and no definition that a reader has to believe does.
 pub mod Lifts
-pub mod Parts
 pub mod Insides
 pub mod Replies
 pub mod Joins

@@ -1,19 +1,18 @@
 //! Vertices that are added to a part.
 
-ghost use Rattle.std.specs.Prelude.{◌≡◌, ◌↔◌, ℕ, ◌+◌, ◌^◌, ◌<◌, ◌≤◌, Some, length, sum_by, slice_set, All, AllPairs, IsSome, IfSome, IsTrue, OnOk, OnErr};
-ghost use Rattle.pg_wire.specs.Lines.{line_with};
+ghost use Rattle.std.specs.Prelude.{◌≡◌, ◌↔◌, ◌<◌, ◌≤◌, length, map, All, AllPairs, IfOk, IsTrue};
+ghost use Rattle.pg_wire.specs.Lines.{head_of, line_with};
 ghost use Rattle.pg_wire.specs.Well.{IsVertexLine};
 ghost use Rattle.pg_coord_partition.specs.Frames.{told_line, player};
 ghost use Rattle.pg_worker.specs.Workers.{with_lines, HasBound, FitsGame};
-ghost use Rattle.pg_worker.specs.Mirrors.Parts.{HasPlace, held_line};
-ghost use Rattle.pg_worker.specs.Mirrors.Insides.{IsInside, IsNext, HaveRoom, edge_count};
+ghost use Rattle.pg_worker.specs.Mirrors.Insides.{IsNext};
 
-use crate::part::Part;
 use pg_arena::{Player, Vertex};
-use pg_map_lift::Queue;
+use pg_map_lift::{Lifter, Part, PartLine};
 use pg_measure::Bounds;
 use pg_wire::{LineHead, VertexLine};
-use std::alloc::AllocError;
+use std::alloc::{AllocError, Global};
+use std::collections::VecDeque;
 
 /// The player with this number.
 fn player(number: u8) -> Player
@@ -26,92 +25,78 @@ fn player(number: u8) -> Player
     }
 }
 
-/// Adds a vertex to a part in which there is room for it.
-#[inline(always)]
-pub(crate) fn add_line(part: &mut Part, queue: &mut Queue, head: LineHead, successors: &[u32])
-    requires inside { IsInside part.old }
-    requires new { ¬ (IsSome (held_line part.old head.vertex)) }
-    requires below { head.vertex < length part.old.lines }
-    requires within { All (λ w. w < length part.old.lines) successors.now }
-    requires some { 0 < length successors.now }
-    requires place { HasPlace part.old head.vertex }
-    requires few { part.old.edges + length successors.now < 2 ^ 32 }
-    requires room { part.old.edges + length successors.now ≤ part.old.room }
-    ensures inside { IsInside part.new }
-    ensures lines { part.new.lines ≡ slice_set part.old.lines head.vertex
-        (Some (told_line (line_with head successors.now))) }
-    ensures edges { part.new.edges ≡ part.old.edges + length successors.now }
-    ensures first { part.new.first ≡ part.old.first }
-    ensures places { (v : ℕ) → HasPlace part.old v → HasPlace part.new v }
-    ensures room { part.new.room ≡ part.old.room }
+/// The line of a vertex by its head and its successors.
+pub(crate) fn new_line(
+    alloc: Global,
+    head: LineHead,
+    successors: &[u32],
+) -> Result<PartLine, AllocError>
+    ensures { IfOk result (λ l. l ≡ told_line (line_with head successors.now)) }
 {
-    let v = Vertex(head.vertex);
-    let owner = player(head.owner);
-    part.add(v, head.priority, owner, successors);
-    queue.add(v);
+    PartLine::new(alloc, head.priority, player(head.owner), successors)
 }
 
-/// Adds vertices, which rise from `next` on, and for which there is room.
-pub(crate) fn add_lines(part: &mut Part, queue: &mut Queue, next: &mut u64, lines: &[VertexLine])
-    requires inside { IsInside part.old }
-    requires next { IsNext part.old next.old }
+/// The head of a line.
+fn head_of(line: &VertexLine) -> LineHead
+    ensures { result ≡ head_of line.now }
+{
+    LineHead {
+        vertex: line.vertex,
+        priority: line.priority,
+        owner: line.owner,
+    }
+}
+
+/// The lines as they are held.
+pub(crate) fn new_lines(
+    alloc: Global,
+    lines: &[VertexLine],
+) -> Result<VecDeque<PartLine>, AllocError>
+    ensures { IfOk result (λ ls. ls.items ≡ map told_line lines.now) }
+{
+    let mut held = VecDeque::new(alloc);
+    for line in lines {
+        let line = new_line(alloc, head_of(line), line.successors.as_slice())?;
+        held.push_back(line)?;
+    }
+    Ok(held)
+}
+
+/// Adds vertices, which rise from `next` on, by their lines as they are held.
+pub(crate) fn add_lines(
+    lifter: &mut Lifter<Part>,
+    next: &mut u64,
+    lines: &[VertexLine],
+    mut held: VecDeque<PartLine>,
+)
+    requires size { length lifter.old.lines ≡ length lifter.old.map.measures }
+    requires next { IsNext lifter.old.lines next.old }
     requires above { All (λ l. next.old ≤ l.vertex) lines.now }
-    requires below { All (λ l. l.vertex < length part.old.lines) lines.now }
-    requires within { All (λ l. All (λ w. w < length part.old.lines) l.successors) lines.now }
+    requires below { All (λ l. l.vertex < length lifter.old.lines) lines.now }
+    requires within { All (λ l. All (λ w. w < length lifter.old.lines) l.successors) lines.now }
     requires lines { All IsVertexLine lines.now }
     requires rising { AllPairs (λ l m. l.vertex < m.vertex) lines.now }
-    requires places { All (λ l. HasPlace part.old l.vertex) lines.now }
-    requires few { part.old.edges + sum_by edge_count lines.now < 2 ^ 32 }
-    requires room { part.old.edges + sum_by edge_count lines.now ≤ part.old.room }
-    ensures inside { IsInside part.new }
-    ensures next { IsNext part.new next.new }
-    ensures lines { part.new.lines ≡ with_lines part.old.lines lines.now }
-    ensures size { length part.new.lines ≡ length part.old.lines }
-    ensures first { 0 < length lines.now → part.new.first ≤ next.new }
+    requires held { held.items ≡ map told_line lines.now }
+    ensures next { IsNext lifter.new.lines next.new }
+    ensures lines { lifter.new.lines ≡ with_lines lifter.old.lines lines.now }
+    ensures map { lifter.new.map ≡ lifter.old.map }
 {
     for line in lines {
-        let head = LineHead {
-            vertex: line.vertex,
-            priority: line.priority,
-            owner: line.owner,
+        let Some(new) = held.pop_front() else {
+            return;
         };
-        add_line(part, queue, head, line.successors.as_slice());
+        lifter.add(Vertex(line.vertex), new);
         *next = u64::from(line.vertex) + 1;
     }
 }
 
-/// Makes room for lines of vertices from the one to the other, with so many successors in all.
-#[inline(always)]
-pub(crate) fn make_room(
-    part: &mut Part,
-    queue: &mut Queue,
-    from: u32,
-    to: u32,
-    count: usize,
-) -> Result<(), AllocError>
-    requires first { part.old.first ≤ from }
-    requires from { from < length part.old.lines }
-    ensures lines { part.new.lines ≡ part.old.lines }
-    ensures first { OnErr result (part.new.first ≡ part.old.first) }
-    ensures room { OnOk result (HaveRoom part.new from to count) }
-{
-    let all = part.edges().checked_add(count).ok_or(AllocError)?;
-    if all > u32::MAX as usize {
-        return Err(AllocError);
-    }
-    queue.reserve(count)?;
-    part.reserve(from, to, count)
-}
-
-/// How many edges the lines have; none where a number can't hold it.
-pub(crate) fn count_edges(lines: &[VertexLine]) -> Option<usize>
-    ensures { IfSome result (λ n. n ≡ sum_by edge_count lines.now) }
-{
+/// How many edges the lines have.
+pub(crate) fn count_edges(lines: &[VertexLine]) -> usize {
     let mut count = 0usize;
     for line in lines {
-        count = count.checked_add(line.successors.as_slice().len())?;
+        count = count.saturating_add(line.successors.as_slice().len());
     }
-    Some(count)
+    count
 }
 
 /// Whether all the vertices are at least `next`.
@@ -143,12 +128,7 @@ pub(crate) fn fits_line(bounds: &Bounds, count: u32, head: LineHead, successors:
 fn fits_game(bounds: &Bounds, count: u32, line: &VertexLine) -> bool
     ensures { IsTrue result ↔ FitsGame bounds.now count line.now }
 {
-    let head = LineHead {
-        vertex: line.vertex,
-        priority: line.priority,
-        owner: line.owner,
-    };
-    fits_line(bounds, count, head, line.successors.as_slice())
+    fits_line(bounds, count, head_of(line), line.successors.as_slice())
 }
 
 /// Whether all the lines fit the game.

@@ -8,7 +8,6 @@ mod joins;
 pub mod laws;
 mod lifting;
 mod lines;
-mod part;
 mod reply;
 mod served;
 mod service;

@@ -4,13 +4,11 @@ ghost use Rattle.std.specs.Prelude.{◌≡◌, ◌<◌, ◌≤◌, false, [], le
 ghost use Rattle.pg_map.specs.Maps.{IsClosed};
 ghost use Rattle.pg_map_lift.specs.Mirrors.Lifters.{KeepsLines};
 ghost use Rattle.pg_worker.specs.Mirrors.Lifts.{AreListedLifts};
-ghost use Rattle.pg_worker.specs.Mirrors.Parts.{held_line};
-ghost use Rattle.pg_worker.specs.Workers.{AreLifts};
+ghost use Rattle.pg_worker.specs.Workers.{part_line, AreLifts};
 
-use crate::part::Part;
 use pg_coord_partition::VertexSet;
 use pg_map::Update;
-use pg_map_lift::Lifter;
+use pg_map_lift::{Lifter, Part};
 use pg_measure::{Bounds, Measure};
 use std::alloc::AllocError;
 
@@ -41,16 +39,17 @@ pub(crate) fn lift_some(
     requires { updates.old.items ≡ [] }
     ensures same { KeepsLines lifter.old lifter.new }
     ensures lifts { AreLifts lifter.old.map.bounds
-        (held_line lifter.old.lines) lifter.old.map.measures updates.new.items lifter.new.map.measures }
+        (part_line lifter.old.lines) lifter.old.map.measures updates.new.items lifter.new.map.measures }
     ensures few { length updates.new.items ≤ budget }
     ensures quiet { IfOk result (λ quiet. MatchBool quiet
-        (IsClosed lifter.old.map.bounds (held_line lifter.old.lines) lifter.new.map.measures)
-        (¬ (IsClosed lifter.old.map.bounds (held_line lifter.old.lines) lifter.new.map.measures))) }
+        (IsClosed lifter.old.map.bounds (part_line lifter.old.lines) lifter.new.map.measures)
+        (¬ (IsClosed lifter.old.map.bounds (part_line lifter.old.lines) lifter.new.map.measures))) }
     ensures fewer { IfOk result (λ quiet. quiet ≡ false → length updates.new.items ≡ budget) }
 {
     for _ in 0..budget {
         let mut measure = room_for_update(updates, lifter.bounds())?;
         let Some(v) = lifter.lift_next() else {
+            lifter.watch();
             return Ok(true);
         };
         lifter.copy_to(v, &mut measure);
@@ -66,14 +65,15 @@ pub(crate) fn lift_turn(lifter: &mut Lifter<Part>, lifted: &mut VertexSet, budge
     ensures same { KeepsLines lifter.old lifter.new }
     ensures room { lifted.new.count ≡ lifted.old.count }
     ensures quiet { MatchBool result
-        (IsClosed lifter.old.map.bounds (held_line lifter.old.lines) lifter.new.map.measures)
-        (¬ (IsClosed lifter.old.map.bounds (held_line lifter.old.lines) lifter.new.map.measures)) }
-    ensures turn { AreListedLifts lifter.old.map.bounds (held_line lifter.old.lines)
+        (IsClosed lifter.old.map.bounds (part_line lifter.old.lines) lifter.new.map.measures)
+        (¬ (IsClosed lifter.old.map.bounds (part_line lifter.old.lines) lifter.new.map.measures)) }
+    ensures turn { AreListedLifts lifter.old.map.bounds (part_line lifter.old.lines)
         lifter.old.map.measures lifter.new.map.measures lifted.new.vertices (λ n. (n ≤ budget)
         × (result ≡ false → n ≡ budget)) }
 {
     for _ in 0..budget {
         let Some(v) = lifter.lift_next() else {
+            lifter.watch();
             return true;
         };
         lifted.add(v);

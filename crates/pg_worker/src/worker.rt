@@ -8,14 +8,13 @@ ghost use Rattle.pg_measure.specs.Views.{measure_in};
 ghost use Rattle.pg_map.specs.Maps.{measure_at, zero_map, IsServed};
 ghost use Rattle.pg_worker.specs.Workers.{part_line, new_worker, with_lines, AreAbove, FitsGame, IsWorker, RefusesLines, CanTake, Takes, Lifts, IsTurn, IsListedTurn};
 
-use crate::adding::{add_line, add_lines, are_from, count_edges, fit_game, fits_line, make_room};
+use crate::adding::{add_lines, are_from, count_edges, fit_game, fits_line, new_line, new_lines};
 use crate::lifting::{lift_some, lift_turn};
-use crate::part::Part;
 use crate::{Lifted, WorkerFault};
 use pg_arena::Vertex;
 use pg_coord_partition::{VertexSet, fits};
-use pg_map::{Lines, MeasureMap, Update, View};
-use pg_map_lift::{Lifter, Queue};
+use pg_map::{MeasureMap, Update, View};
+use pg_map_lift::{Lifter, Part};
 use pg_measure::{Bounds, Measure};
 use pg_wire::{LineHead, Setup, VertexLine};
 use std::alloc::{AllocError, Global};
@@ -40,7 +39,7 @@ impl Model for Worker {
 
     ghost use Rattle.pg_worker.specs.Mirrors.Insides.{IsWhole};
 
-    ghost view = { λ w. record { bounds = w.lifter.map.bounds; lines = w.lifter.lines.lines; map = w.lifter.map.measures; kept = w.kept.items; lifted = w.lifted.vertices } };
+    ghost view = { λ w. record { bounds = w.lifter.map.bounds; lines = w.lifter.lines; map = w.lifter.map.measures; kept = w.kept.items; lifted = w.lifted.vertices } };
 
     ghost invariant = { λ w. IsWhole w.lifter w.next w.lifted.count };
 }
@@ -65,10 +64,9 @@ impl Worker {
     {
         let vertices = setup.vertices;
         let lifted = VertexSet::new(alloc, vertices)?;
-        let queue = Queue::new(alloc, vertices)?;
         let map = zeros(alloc, setup)?;
-        let lines = Part::new(alloc, vertices);
-        let lifter = Lifter { lines, map, queue };
+        let lines = Part::new(alloc, vertices)?;
+        let lifter = Lifter::new(alloc, lines, map)?;
         Ok(Worker {
             lifter,
             next: 0,
@@ -79,9 +77,8 @@ impl Worker {
 
     /// Adds vertices to the part, whose numbers rise, within the call and across calls. It is refused by Order exactly where
     /// they aren't above those of the part, and then by BadUpdate exactly where the number of a vertex or of a successor
-    /// isn't below the count, or an odd priority has no bound; else for want of memory only, also where the edges of the
-    /// part would be 2^32 or more. After a refusal nothing has changed. The next value or lift goes over all edges of the part
-    /// once, to find who leads to each vertex.
+    /// isn't below the count, or an odd priority has no bound; else where memory runs out only. After a refusal nothing has
+    /// changed. The next value or lift goes over all edges of the part once, to find who leads to each vertex.
     pub fn add_vertices(&mut self, lines: &[VertexLine]) -> Result<(), WorkerFault>
         requires { IsVertices (record { lines = lines.now }) }
         ensures added { OnOk result (self.new ≡ record self.old { lines = with_lines self.old.lines lines.now }) }
@@ -96,15 +93,9 @@ impl Worker {
         if !fit_game(self.lifter.bounds(), self.lifter.len(), lines) {
             return Err(WorkerFault::BadUpdate);
         }
-        if lines.is_empty() {
-            return Ok(());
-        }
-        let from = lines[0].vertex;
-        let to = lines[lines.len() - 1].vertex;
-        let count = count_edges(lines).ok_or(AllocError)?;
-        let lifter = &mut self.lifter;
-        make_room(&mut lifter.lines, &mut lifter.queue, from, to, count)?;
-        add_lines(&mut lifter.lines, &mut lifter.queue, &mut self.next, lines);
+        let held = new_lines(*self.kept.allocator(), lines)?;
+        self.lifter.reserve(count_edges(lines))?;
+        add_lines(&mut self.lifter, &mut self.next, lines, held);
         Ok(())
     }
 
@@ -128,10 +119,9 @@ impl Worker {
         if !fits_line(self.lifter.bounds(), self.lifter.len(), head, successors) {
             return Err(WorkerFault::BadUpdate);
         }
-        let count = successors.len();
-        let lifter = &mut self.lifter;
-        make_room(&mut lifter.lines, &mut lifter.queue, vertex, vertex, count)?;
-        add_line(&mut lifter.lines, &mut lifter.queue, head, successors);
+        let line = new_line(*self.kept.allocator(), head, successors)?;
+        self.lifter.reserve(successors.len())?;
+        self.lifter.add(Vertex(vertex), line);
         self.next = u64::from(vertex) + 1;
         Ok(())
     }
@@ -239,8 +229,7 @@ impl Worker {
     pub fn holds(&self, v: Vertex) -> bool
         ensures { IsTrue result ↔ IsSome (part_line self.now.lines v) }
     {
-        let lifter = &self.lifter;
-        lifter.lines.holds(v)
+        self.lifter.holds(v)
     }
 
     /// The updates of a `lift_some` that was refused, in the order in which they were made. None before the first one, and

@@ -31,3 +31,11 @@ returns-in-Game-clause-answer g c =
 pub returns-in-Synth-clause-answer : goal.returns-in-Synth-clause-answer
 returns-in-Synth-clause-answer g c =
     answered _ _ _ _ _ _ _ _ _ c.requires.limit c.in-Synth.is c.synth.ensures.answer c.synth.ensures.refused c.print-in-Synth.ensures.written c.print-in-Synth.ensures.refused
+
+pub returns-in-SynthSmall-clause-answer : goal.returns-in-SynthSmall-clause-answer
+returns-in-SynthSmall-clause-answer g c =
+    answered _ _ _ _ _ _ _ _ _ c.requires.limit c.in-SynthSmall.is c.synth_small.ensures.answer c.synth_small.ensures.refused c.print-in-SynthSmall.ensures.written c.print-in-SynthSmall.ensures.refused
+
+pub returns-in-Verify-clause-answer : goal.returns-in-Verify-clause-answer
+returns-in-Verify-clause-answer g c =
+    answered _ _ _ _ _ _ _ _ _ c.requires.limit c.in-Verify.is c.verify.ensures.answer c.verify.ensures.refused c.print-in-Verify.ensures.written c.print-in-Verify.ensures.refused

@@ -1,4 +1,4 @@
-use Rattle.pg_worker.proofs.Common.{◌∙◌, held_line}
+use Rattle.pg_worker.proofs.Common.{◌∙◌, part_line}
 use Rattle.pg_worker.proofs.Runs.{same_lines, lift_on, listed_more}
 use Rattle.pg_worker.proofs.lifting.lift_turn.Goals as goal
 
@@ -7,7 +7,7 @@ loop-preserved c =
     let i = c.loop.invariant in
     let old = c.args.lifter.now in
     let new = c.lift_next.new.self in
-    let lines = held_line old.lines in
+    let lines = part_line old.lines in
     let bs = old.map.bounds in
     let f = old.map.measures in
     let g = c.loop.lifter.map.measures in
@@ -23,4 +23,4 @@ loop-preserved c =
 pub returns-clause-quiet : goal.returns-clause-quiet
 returns-clause-quiet c =
     let s = c.loop.invariant.same in
-    rw (s.bounds, s.lines) at c.is_quiet.ensures
+    rw c.is_quiet.ensures.same (rw (s.bounds, s.lines) at c.is_quiet.ensures.quiet)

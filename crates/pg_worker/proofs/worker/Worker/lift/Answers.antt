@@ -1,4 +1,5 @@
-use Rattle.pg_worker.proofs.Common.{◌≡◌, ◌∙◌, ap, refl, length, owned, measure_at, IsServed, LifterValue, Lifts, PartValue, held_line}
+use Rattle.pg_worker.proofs.Common.{◌≡◌, ◌∙◌, ap, refl, length, owned, measure_at, IsServed, LifterValue, Lifts, part_line}
+use Rattle.pg_worker.proofs.Common.{List, Option, Line}
 use Rattle.pg_worker.proofs.Working.{worker_of, lifts_of}
 use Rattle.pg_worker.proofs.worker.Worker.lift.Goals as goal
 
@@ -8,7 +9,7 @@ returns-clause-lifted c =
     let old = w.lifter in
     let new = c.lift.new.self in
     let at = measure_at new.map.measures c.args.v in
-    let one : Lifts held_line old new c.args.v = rw c.if-not-lift.false at c.lift.ensures.lifted in
+    let one : Lifts part_line old new c.args.v = rw c.if-not-lift.false at c.lift.ensures.lifted in
     let width : c.in_ok-measure.measure.width ≡ length old.map.bounds = ap (λ m. m.width) c.in_ok-measure.ensures ∙ ap length c.bounds.ensures in
     let measure : c.copy_to.new.measure ≡ owned at (length old.map.bounds) = c.copy_to.ensures ∙ ap (owned at) width in
     rw (← c.self.view_is) (
@@ -21,6 +22,6 @@ pub returns-then-not-lift-clause-served : goal.returns-then-not-lift-clause-serv
 returns-then-not-lift-clause-served c =
     let w = c.self.inside in
     let old = w.lifter in
-    let served : (c.lift.new.self ≡ old) × IsServed old.map.bounds (held_line old.lines) old.map.measures c.args.v =
+    let served : (c.lift.new.self ≡ old) × IsServed old.map.bounds (part_line old.lines) old.map.measures c.args.v =
     rw c.if-not-lift.true at c.lift.ensures.served in
-    rw (← c.self.view_is) (served.1, ap (λ (l : LifterValue PartValue). worker_of l w.kept.items w.lifted.vertices) served.0)
+    rw (← c.self.view_is) (served.1, ap (λ (l : LifterValue (List (Option Line))). worker_of l w.kept.items w.lifted.vertices) served.0)

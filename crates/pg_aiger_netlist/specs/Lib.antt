@@ -1,0 +1,4 @@
+pub mod Netlists
+pub mod Steps
+pub mod Laws
+pub mod Mirrors

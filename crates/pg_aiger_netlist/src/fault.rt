@@ -1,0 +1,43 @@
+//! Why lists are no circuit without a cycle.
+
+ghost use Rattle.std.specs.Prelude.{◌≡◌};
+ghost use Rattle.pg_aiger_netlist.specs.declared.fault.NetlistFault.TheVariants.{OutOfMemory};
+
+use std::alloc::{AllocError, AllocFailed};
+use thiserror::Error;
+
+/// Why there is no netlist.
+#[derive(Clone, Copy, Debug, PartialEq, Eq, Error)]
+pub enum NetlistFault {
+    /// A growth was refused.
+    #[error("out of memory")]
+    OutOfMemory,
+    /// This literal of an input, a latch or a gate is negated, constant, or of a variable above the greatest.
+    #[error("literal {0} defines no variable")]
+    NotAVariable(u32),
+    /// Inputs, latches and gates define this variable more than once.
+    #[error("variable {0} is defined twice")]
+    DefinedTwice(u32),
+    /// A gate, a latch or an output uses this variable, and nothing defines it.
+    #[error("variable {0} is used and not defined")]
+    Undefined(u32),
+    /// The gate of this variable waits for itself.
+    #[error("the gate of variable {0} stands in a cycle")]
+    Cycle(u32),
+}
+
+impl From<AllocError> for NetlistFault {
+    ghost from_gives = { λ _ e. e ≡ OutOfMemory };
+
+    fn from(_e: AllocError) -> NetlistFault {
+        NetlistFault::OutOfMemory
+    }
+}
+
+impl<T: Drop> From<AllocFailed<T>> for NetlistFault {
+    ghost from_gives = { λ _ e. e ≡ OutOfMemory };
+
+    fn from(_e: AllocFailed<T>) -> NetlistFault {
+        NetlistFault::OutOfMemory
+    }
+}

@@ -1,0 +1,71 @@
+//! Circuits without a cycle.
+
+ghost use Rattle.std.specs.Prelude.{◌≡◌, IfOk, IfErr};
+ghost use Rattle.pg_aiger_netlist.specs.Netlists.{IsAcyclic, IsFaultOf};
+ghost use Rattle.pg_aiger_netlist.specs.Mirrors.Views.{circuit};
+
+use crate::fault::NetlistFault;
+use crate::marks::{check_uses, definitions_of, marked, sources_of, uses_of};
+use crate::order::order_of;
+use pg_aiger::{Gate, Latch};
+use std::alloc::Global;
+use std::marker::Model;
+
+/// A circuit without a cycle. A literal is twice its variable, plus one if it is negated; variable 0 is the constant false.
+#[derive(Debug, Drop)]
+pub struct Netlist {
+    pub(crate) greatest: u32,
+    pub(crate) inputs: Vec<u32>,
+    pub(crate) latches: Vec<Latch>,
+    pub(crate) outputs: Vec<u32>,
+    pub(crate) gates: Vec<Gate>,
+    /// The gates, each behind those whose variables it uses.
+    pub(crate) ordered: Vec<Gate>,
+}
+
+impl Model for Netlist {
+    ghost use Rattle.pg_aiger.specs.Circuits.{Circuit};
+    ghost use Rattle.pg_aiger_netlist.specs.Mirrors.Views.{circuit, IsKept};
+
+    ghost Value = { Circuit };
+
+    ghost view = { λ n. circuit n.greatest n.inputs.items n.latches.items n.outputs.items n.gates.items };
+
+    ghost invariant = { λ n. IsKept (circuit n.greatest n.inputs.items n.latches.items n.outputs.items n.gates.items) n.ordered.items };
+}
+
+impl Netlist {
+    /// The circuit of these lists, if it has no cycle. The order of the inputs and of the outputs is what it was; the gates may stand
+    /// in any order.
+    ///
+    /// Each fault comes only if it is so: a literal that can define no variable, a variable that is defined twice, one that is used
+    /// and not defined, gates that wait for one another, or that memory ran out. Of several faults the first in this order is told.
+    pub fn new(
+        alloc: Global,
+        greatest: u32,
+        inputs: Vec<u32>,
+        latches: Vec<Latch>,
+        outputs: Vec<u32>,
+        gates: Vec<Gate>,
+    ) -> Result<Netlist, NetlistFault>
+        ensures lists { IfOk result (λ n. n ≡ circuit greatest inputs.items latches.items outputs.items gates.items) }
+        ensures acyclic { IfOk result IsAcyclic }
+        ensures fault { IfErr result (IsFaultOf (circuit greatest inputs.items latches.items outputs.items gates.items)) }
+    {
+        let sources = sources_of(alloc, &inputs, &latches)?;
+        let definitions = definitions_of(alloc, &sources, &gates)?;
+        let defined = marked(alloc, greatest, &definitions)?;
+        let uses = uses_of(alloc, &gates, &latches, &outputs)?;
+        check_uses(&defined, &uses)?;
+        let mut known = marked(alloc, greatest, &sources)?;
+        let ordered = order_of(alloc, &mut known, &gates)?;
+        Ok(Netlist {
+            greatest,
+            inputs,
+            latches,
+            outputs,
+            gates,
+            ordered,
+        })
+    }
+}

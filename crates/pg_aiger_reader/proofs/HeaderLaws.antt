@@ -1,0 +1,197 @@
+-- The first line: what is read is spelt, and what is spelt is read.
+use Rattle.pg_aiger_reader.proofs.Common.{◌≡◌, ℕ, ◌+◌, ◌≤◌, ◌&&◌, ◌||◌, Bool, true, false, List, [], ◌∷◌, ◌++◌}
+use Rattle.pg_aiger_reader.proofs.Common.{length, Option, Some, None, refl, sym, subst, arith, inl, inr, ◌>>=◌, eqb, ltb, eq-eqb}
+use Rattle.pg_aiger_reader.proofs.Common.{eqb-true, le-ltb, le-leb, leb-true, ltb-false, chosen, some, some_is}
+use Rattle.pg_aiger_reader.proofs.Common.{none, none_is_some, line_at, header_of, header_at, AllByRecursion, and_parts, if◌then◌else◌}
+use Rattle.pg_aiger_reader.proofs.Lines.{line_found, line_only, line_few}
+use Rattle.pg_aiger_reader.specs.declared.fault.Section.{Section}
+use Rattle.pg_aiger_reader.specs.declared.header.Header.{Header}
+use Rattle.pg_aiger_reader.specs.declared.item.Form.{Form}
+use Rattle.pg_aiger_reader.specs.declared.item.Form.TheVariants.{Ascii, Binary}
+use Rattle.pg_aiger_reader.specs.Texts.{BeginsLine, form_text, AreVariables}
+use Rattle.pg_aiger_reader.specs.Mirrors.Headers.{form_at, left_out, fits, head, within}
+
+abbrev pub AreZeros : List ℕ → Type 0
+AreZeros ns = AllByRecursion (λ n. n ≡ 0) ns
+
+-- what a header that is read says
+pub record IsHeader (bytes : List ℕ) (h : Header) (rest : List ℕ) : Type 0 where
+  pub text : List ℕ
+  pub zeros : List ℕ
+  pub begins : bytes ≡ form_text h.form ++ text
+  pub line : BeginsLine text (h.greatest ∷ h.inputs ∷ h.latches ∷ h.outputs ∷ h.gates ∷ zeros) rest
+  pub few_zeros : length zeros ≤ 4
+  pub zero : AreZeros zeros
+  pub variables : AreVariables h.form (h.inputs + h.latches + h.gates) h.greatest
+  pub few_variables : h.greatest ≤ 16777216
+  pub few_outputs : h.outputs ≤ 16777216
+
+-- ---- zeros
+
+if_none : (b : Bool) (s : Section) (rest : Option Section) → (if b then rest else Some s) ≡ none → (b ≡ true) × (rest ≡ none)
+if_none true s rest e = (refl, e)
+if_none false s rest e = absurd (none_is_some s (sym e))
+
+zeros_found : (ns : List ℕ) → length ns ≤ 4 → left_out ns ≡ None → AreZeros ns
+zeros_found [] few e = tt
+zeros_found (b ∷ []) few e = (eqb-true b 0 (if_none _ _ _ e).0, tt)
+zeros_found (b ∷ c ∷ []) few e =
+    let first = if_none _ _ _ e in
+    let second = if_none _ _ _ first.1 in
+    (eqb-true b 0 first.0, (eqb-true c 0 second.0, tt))
+zeros_found (b ∷ c ∷ j ∷ []) few e =
+    let first = if_none _ _ _ e in
+    let second = if_none _ _ _ first.1 in
+    let third = if_none _ _ _ second.1 in
+    (eqb-true b 0 first.0, (eqb-true c 0 second.0, (eqb-true j 0 third.0, tt)))
+zeros_found (b ∷ c ∷ j ∷ f ∷ []) few e =
+    let first = if_none _ _ _ e in
+    let second = if_none _ _ _ first.1 in
+    let third = if_none _ _ _ second.1 in
+    let fourth = if_none _ _ _ third.1 in
+    (eqb-true b 0 first.0, (eqb-true c 0 second.0, (eqb-true j 0 third.0, (eqb-true f 0 fourth.0, tt))))
+zeros_found (b ∷ c ∷ j ∷ f ∷ n ∷ ns) few e = absurd (omega arith)
+
+zeros_only : (ns : List ℕ) → AreZeros ns → left_out ns ≡ None
+zeros_only [] are = refl
+zeros_only (b ∷ []) are = rw are.0 refl
+zeros_only (b ∷ c ∷ []) are = rw (are.0, are.1.0) refl
+zeros_only (b ∷ c ∷ j ∷ []) are = rw (are.0, are.1.0, are.1.1.0) refl
+zeros_only (b ∷ c ∷ j ∷ f ∷ ns) are = rw (are.0, are.1.0, are.1.1.0, are.1.1.1.0) refl
+
+-- ---- forms
+
+four : (a b c d a' b' c' d' : ℕ) (rest : List ℕ) → a ≡ a' → b ≡ b' → c ≡ c' → d ≡ d' → (a ∷ b ∷ c ∷ d ∷ rest) ≡ a' ∷ b' ∷ c' ∷ d' ∷ rest
+four a b c d a' b' c' d' rest e f g h = cc
+
+four_tests : (a b c d k l m n : ℕ) (rest : List ℕ) → eqb a k && eqb b l && eqb c m && eqb d n ≡ true → (a ∷ b ∷ c ∷ d ∷ rest) ≡ k ∷ l ∷ m ∷ n ∷ rest
+four_tests a b c d k l m n rest e =
+    let first = and_parts _ (eqb d n) e in
+    let second = and_parts _ (eqb c m) first.0 in
+    let third = and_parts _ (eqb b l) second.0 in
+    four a b c d k l m n rest (eqb-true a k third.0) (eqb-true b l third.1) (eqb-true c m second.1) (eqb-true d n first.1)
+
+form_found : (bytes : List ℕ) (x : Form × List ℕ) → form_at bytes ≡ Some x → bytes ≡ form_text x.0 ++ x.1
+form_found [] x e = absurd (none_is_some x e)
+form_found (a ∷ []) x e = absurd (none_is_some x e)
+form_found (a ∷ b ∷ []) x e = absurd (none_is_some x e)
+form_found (a ∷ b ∷ c ∷ []) x e = absurd (none_is_some x e)
+form_found (a ∷ b ∷ c ∷ d ∷ rest) x e =
+    elim (chosen (eqb a 97 && eqb b 97 && eqb c 103 && eqb d 32) (some (Ascii, rest)) _ (some x) e) [
+      | inl w ↦
+          subst (λ (y : Form × List ℕ). (a ∷ b ∷ c ∷ d ∷ rest) ≡ form_text y.0 ++ y.1) (some_is (Ascii, rest) x w.1)
+          (four_tests a b c d 97 97 103 32 rest w.0)
+      | inr v ↦ elim (chosen (eqb a 97 && eqb b 105 && eqb c 103 && eqb d 32) (some (Binary, rest)) none (some x) v.1) [
+        | inl w ↦
+            subst (λ (y : Form × List ℕ). (a ∷ b ∷ c ∷ d ∷ rest) ≡ form_text y.0 ++ y.1) (some_is (Binary, rest) x w.1)
+            (four_tests a b c d 97 105 103 32 rest w.0)
+        | inr w ↦ absurd (none_is_some x w.1)
+      ]
+    ]
+
+form_only : (form : Form) (text : List ℕ) → form_at (form_text form ++ text) ≡ Some (form, text)
+form_only Ascii text = refl
+form_only Binary text = refl
+
+-- ---- headers
+
+fits_found : (form : Form) (m i l a : ℕ) → fits form m i l a ≡ true → AreVariables form (i + l + a) m
+fits_found Ascii m i l a e = leb-true _ _ e
+fits_found Binary m i l a e = eqb-true _ _ e
+
+fits_only : (form : Form) (m i l a : ℕ) → AreVariables form (i + l + a) m → fits form m i l a ≡ true
+fits_only Ascii m i l a are = le-leb _ _ are
+fits_only Binary m i l a are = eq-eqb _ _ are
+
+either_false : (a b : Bool) → a || b ≡ false → (a ≡ false) × (b ≡ false)
+either_false true b e = absurd cc
+either_false false b e = (refl, e)
+
+record Checked (form : Form) (m i l o a : ℕ) (out : Option Section) (h : Header) : Type 0 where
+  is : h ≡ head form m i l o a
+  none_out : out ≡ None
+  fit : AreVariables form (i + l + a) m
+  few : m ≤ 16777216
+  few_outputs : o ≤ 16777216
+
+within_found : (form : Form) (m i l o a : ℕ) (out : Option Section) (h : Header) → within form m i l o a out ≡ Some h → Checked form m i l o a out h
+within_found form m i l o a (Some s) h e = absurd (none_is_some h e)
+within_found form m i l o a None h e =
+    elim (chosen (ltb 16777216 m || ltb 16777216 o) none _ (some h) e) [
+      | inl w ↦ absurd (none_is_some h w.1)
+      | inr v ↦ elim (chosen (fits form m i l a) (some (head form m i l o a)) none (some h) v.1) [
+        | inl w ↦
+            let both = either_false (ltb 16777216 m) (ltb 16777216 o) v.0 in
+            record {
+              is = sym (some_is _ h w.1);
+              none_out = refl;
+              fit = fits_found form m i l a w.0;
+              few = ltb-false _ _ both.0;
+              few_outputs = ltb-false _ _ both.1;
+            }
+        | inr w ↦ absurd (none_is_some h w.1)
+      ]
+    ]
+
+pub header_found : (bytes : List ℕ) (x : Header × List ℕ) → header_at bytes ≡ Some x → IsHeader bytes x.0 x.1
+unfolding header_at header_of
+header_found bytes x e = of_form (form_at bytes) refl e
+  where
+    made : (form : Form) (text rest : List ℕ) (m i l o a : ℕ) (more : List ℕ) (h : Header) → bytes ≡ form_text form ++ text
+        → line_at 9 text ≡ Some (m ∷ i ∷ l ∷ o ∷ a ∷ more, rest) → Checked form m i l o a (left_out more) h → IsHeader bytes h rest
+    made form text rest m i l o a more h begins same c =
+        let few = line_few 9 text (m ∷ i ∷ l ∷ o ∷ a ∷ more, rest) same in
+        let short : length more ≤ 4 = omega (arith, few) in
+        subst (λ h. IsHeader bytes h rest) (sym c.is)
+        (record {
+          text = text;
+          zeros = more;
+          begins = begins;
+          line = (line_found 9 text (m ∷ i ∷ l ∷ o ∷ a ∷ more, rest) same).1;
+          few_zeros = short;
+          zero = zeros_found more short c.none_out;
+          variables = c.fit;
+          few_variables = c.few;
+          few_outputs = c.few_outputs;
+        })
+
+    of_head : (form : Form) (text rest : List ℕ) (m i l o a : ℕ) (more : List ℕ) → bytes ≡ form_text form ++ text
+        → line_at 9 text ≡ Some (m ∷ i ∷ l ∷ o ∷ a ∷ more, rest) → (read : Option Header) → within form m i l o a (left_out more) ≡ read
+        → (read >>= λ h. Some (h, rest)) ≡ Some x → IsHeader bytes x.0 x.1
+    of_head form text rest m i l o a more begins same None is e = absurd (none_is_some x e)
+    of_head form text rest m i l o a more begins same (Some h) is e =
+        subst (λ (y : Header × List ℕ). IsHeader bytes y.0 y.1) (some_is (h, rest) x e)
+        (made form text rest m i l o a more h begins same (within_found form m i l o a (left_out more) h is))
+
+    of_line : (form : Form) (text : List ℕ) → bytes ≡ form_text form ++ text → (read : Option (List ℕ × List ℕ)) → line_at 9 text ≡ read
+        → (read >>= λ y. header_of form y.0 >>= λ h. Some (h, y.1)) ≡ Some x → IsHeader bytes x.0 x.1
+    of_line form text begins None same e = absurd (none_is_some x e)
+    of_line form text begins (Some ([], rest)) same e = absurd (none_is_some x e)
+    of_line form text begins (Some (m ∷ [], rest)) same e = absurd (none_is_some x e)
+    of_line form text begins (Some (m ∷ i ∷ [], rest)) same e = absurd (none_is_some x e)
+    of_line form text begins (Some (m ∷ i ∷ l ∷ [], rest)) same e = absurd (none_is_some x e)
+    of_line form text begins (Some (m ∷ i ∷ l ∷ o ∷ [], rest)) same e = absurd (none_is_some x e)
+    of_line form text begins (Some (m ∷ i ∷ l ∷ o ∷ a ∷ more, rest)) same e =
+        of_head form text rest m i l o a more begins same (within form m i l o a (left_out more)) refl e
+
+    of_form : (read : Option (Form × List ℕ)) → form_at bytes ≡ read
+        → (read >>= λ y. line_at 9 y.1 >>= λ z. header_of y.0 z.0 >>= λ h. Some (h, z.1)) ≡ Some x → IsHeader bytes x.0 x.1
+    of_form None same e = absurd (none_is_some x e)
+    of_form (Some y) same e = of_line y.0 y.1 (form_found bytes y same) (line_at 9 y.1) refl e
+
+pub header_only : (bytes : List ℕ) (h : Header) (rest : List ℕ) → IsHeader bytes h rest → header_at bytes ≡ Some (h, rest)
+unfolding header_at header_of
+header_only bytes h rest is =
+    let few = is.few_zeros in
+    let line = line_only 9 is.text h.greatest (h.inputs ∷ h.latches ∷ h.outputs ∷ h.gates ∷ is.zeros) rest is.line (omega (arith, few)) in
+    let low : ltb 16777216 h.greatest ≡ false = le-ltb _ _ is.few_variables in
+    let low' : ltb 16777216 h.outputs ≡ false = le-ltb _ _ is.few_outputs in
+    rw (
+      is.begins,
+      form_only h.form is.text,
+      line,
+      zeros_only is.zeros is.zero,
+      low,
+      low',
+      fits_only h.form h.greatest h.inputs h.latches h.gates is.variables,
+    ) refl

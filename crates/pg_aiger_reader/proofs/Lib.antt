@@ -1,0 +1,10 @@
+pub mod Common
+pub mod Lines
+pub mod HeaderLaws
+pub mod ItemLaws
+pub mod Latches
+pub mod Loops
+pub mod Many
+pub mod ReadingLaws
+pub mod SymbolLaws
+pub mod Symbols

@@ -1,0 +1,53 @@
+-- What the functions that read the first line compute: a mirror of them for proofs, whose laws stand in proofs/.
+use Rattle.std.specs.Prelude.{ℕ, ◌+◌, ◌≤◌, ◌==◌, ◌&&◌, ◌||◌, Bool, List, [], ◌∷◌, Option, Some, None, nat_lt, nat_le, if◌then◌else◌}
+use Rattle.pg_hoa_automaton.specs.Mirrors.Steps.{◌>>=◌}
+use Rattle.pg_aiger_reader.specs.declared.fault.Section.{Section}
+use Rattle.pg_aiger_reader.specs.declared.fault.Section.TheVariants.{BadStates, Constraints, Justice, Fairness}
+use Rattle.pg_aiger_reader.specs.declared.header.Header.{Header}
+use Rattle.pg_aiger_reader.specs.declared.item.Form.{Form}
+use Rattle.pg_aiger_reader.specs.declared.item.Form.TheVariants.{Ascii, Binary}
+use Rattle.pg_aiger_reader.specs.Mirrors.Scan.{line_at}
+
+-- `aag ` or `aig `
+abbrev pub form_at : List ℕ → Option (Form × List ℕ)
+form_at (a ∷ b ∷ c ∷ d ∷ rest) =
+    if a == 97 && b == 97 && c == 103 && d == 32 then Some (Ascii, rest)
+    else (if a == 97 && b == 105 && c == 103 && d == 32 then Some (Binary, rest)
+    else None)
+form_at bytes = None
+
+abbrev pub left_out : List ℕ → Option Section
+left_out [] = None
+left_out (b ∷ []) = if b == 0 then None else Some BadStates
+left_out (b ∷ c ∷ []) = if b == 0 then (if c == 0 then None else Some Constraints) else Some BadStates
+left_out (b ∷ c ∷ j ∷ []) =
+    if b == 0 then (if c == 0 then (if j == 0 then None else Some Justice) else Some Constraints) else Some BadStates
+left_out (b ∷ c ∷ j ∷ f ∷ others) =
+    if b == 0 then (if c == 0 then (if j == 0 then (if f == 0 then None else Some Fairness) else Some Justice) else Some Constraints) else Some BadStates
+
+abbrev pub fits : Form → ℕ → ℕ → ℕ → ℕ → Bool
+fits Ascii greatest inputs latches gates = nat_le (inputs + latches + gates) greatest
+fits Binary greatest inputs latches gates = (inputs + latches + gates) == greatest
+
+abbrev pub head : Form → ℕ → ℕ → ℕ → ℕ → ℕ → Header
+head form greatest inputs latches outputs gates =
+    record { form = form; greatest = greatest; inputs = inputs; latches = latches; outputs = outputs; gates = gates }
+
+-- where nothing is left out and it is within the limits
+abbrev pub within : Form → ℕ → ℕ → ℕ → ℕ → ℕ → Option Section → Option Header
+within form m i l o a (Some section) = None
+within form m i l o a None =
+    if nat_lt 16777216 m || nat_lt 16777216 o then None
+    else (if fits form m i l a then Some (head form m i l o a) else None)
+
+unfoldable pub header_of : Form → List ℕ → Option Header
+header_of form (m ∷ i ∷ l ∷ o ∷ a ∷ more) = within form m i l o a (left_out more)
+header_of form ns = None
+
+unfoldable pub header_at : List ℕ → Option (Header × List ℕ)
+header_at bytes = form_at bytes >>= λ x. line_at 9 x.1 >>= λ y. header_of x.0 y.0 >>= λ h. Some (h, y.1)
+
+-- what the sections may count on
+pub record IsSmall (header : Header) : Type 0 where
+  pub defined : header.inputs + header.latches + header.gates ≤ 16777216
+  pub outputs : header.outputs ≤ 16777216

@@ -1,0 +1,36 @@
+-- What the reader computes: a mirror of it for proofs, whose laws stand in proofs/.
+use Rattle.std.specs.Prelude.{ℕ, ◌+◌, ◌==◌, List, [], ◌∷◌, length, take, drop, Option, Some, None, codes, if◌then◌else◌}
+use Rattle.std.specs.Str.{bytes_eq}
+use Rattle.pg_hoa_automaton.specs.Mirrors.Steps.{◌>>=◌}
+use Rattle.pg_aiger_reader.specs.declared.gate.Latch.{Latch}
+use Rattle.pg_aiger_reader.specs.declared.item.LatchLine.{LatchLine}
+use Rattle.pg_aiger_reader.specs.declared.reader.Parts as declared
+use Rattle.pg_aiger_reader.specs.Circuits.{Circuit}
+use Rattle.pg_aiger_reader.specs.CircuitText.{Symbol}
+use Rattle.pg_aiger_reader.specs.Texts.{latch_in}
+use Rattle.pg_aiger_reader.specs.Views.{circuit_in, symbols_in}
+use Rattle.pg_aiger_reader.specs.Mirrors.Headers.{header_at}
+use Rattle.pg_aiger_reader.specs.Mirrors.Sections.{Parts, sections_at}
+use Rattle.pg_aiger_reader.specs.Mirrors.Symbols.{symbols_at}
+
+abbrev pub behind_verdict : List ℕ → List ℕ
+behind_verdict bytes = if bytes_eq (take 11 bytes) (codes "REALIZABLE\n") then drop 11 bytes else bytes
+
+unfoldable pub latches_at : List LatchLine → Option (List Latch)
+latches_at [] = Some []
+latches_at (l ∷ ls) = if l.reset == 0 then (latches_at ls >>= λ xs. Some (latch_in l ∷ xs)) else None
+
+abbrev pub circuit_of : ℕ → Parts → List Latch → Circuit
+circuit_of greatest parts latches =
+    record { greatest = greatest; inputs = parts.inputs; latches = latches; outputs = parts.outputs; gates = parts.gates }
+
+abbrev pub parts_in : declared.Parts → Circuit × List Symbol
+parts_in parts = (circuit_in parts, symbols_in parts)
+
+unfoldable pub text_at : List ℕ → Option (Circuit × List Symbol)
+text_at bytes =
+    header_at (behind_verdict bytes) >>= λ h.
+    sections_at h.0 h.1 >>= λ s.
+    latches_at s.0.lines >>= λ latches.
+    symbols_at h.0 (length s.1 + 1) s.1 >>= λ symbols.
+    Some (circuit_of h.0.greatest s.0 latches, symbols)

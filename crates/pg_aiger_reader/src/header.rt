@@ -1,0 +1,106 @@
+//! The first line: how a circuit is written, and how much of each there is.
+
+ghost use Rattle.std.specs.Prelude.{◌≡◌, IfOk, option_map};
+ghost use Rattle.pg_aiger_reader.specs.Mirrors.Steps.{Gives};
+ghost use Rattle.pg_aiger_reader.specs.Mirrors.Headers.{IsSmall, form_at, left_out, fits, header_of, header_at};
+
+use crate::fault::{ReaderFault, Section};
+use crate::item::Form;
+use crate::number::line;
+use std::alloc::Global;
+
+/// How many variables and outputs there may be at most.
+const MOST: u32 = 16_777_216;
+
+/// How a circuit is written, and how much of each there is.
+#[derive(Clone, Copy, Debug)]
+pub(crate) struct Header {
+    pub form: Form,
+    pub greatest: u32,
+    pub inputs: u32,
+    pub latches: u32,
+    pub outputs: u32,
+    pub gates: u32,
+}
+
+/// The form by its letters, and what follows.
+fn form(bytes: &[u8]) -> Option<(Form, &[u8])>
+    ensures { option_map (λ x. (x.0, x.1.now)) result ≡ form_at bytes.now }
+{
+    match bytes {
+        [b'a', b'a', b'g', b' ', rest @ ..] => Some((Form::Ascii, rest)),
+        [b'a', b'i', b'g', b' ', rest @ ..] => Some((Form::Binary, rest)),
+        _ => None,
+    }
+}
+
+/// What is left out, by the numbers of the header behind the first five.
+fn left_out(counts: &[u32]) -> Option<Section>
+    ensures { result ≡ left_out counts.now }
+{
+    match counts {
+        [bad, ..] if *bad != 0 => Some(Section::BadStates),
+        [_, constraints, ..] if *constraints != 0 => Some(Section::Constraints),
+        [_, _, justice, ..] if *justice != 0 => Some(Section::Justice),
+        [_, _, _, fairness, ..] if *fairness != 0 => Some(Section::Fairness),
+        _ => None,
+    }
+}
+
+/// Whether the variables suffice for inputs, latches and gates; in the binary form none is left.
+fn fits(form: Form, greatest: u32, inputs: u32, latches: u32, gates: u32) -> bool
+    ensures { result ≡ fits form greatest inputs latches gates }
+{
+    let defined = u64::from(inputs) + u64::from(latches) + u64::from(gates);
+    match form {
+        Form::Ascii => defined <= u64::from(greatest),
+        Form::Binary => defined == u64::from(greatest),
+    }
+}
+
+/// What the numbers of the first line say.
+#[tactic(auto, unfolding(crate::specs::Mirrors::Headers::header_of))]
+fn header_of(form: Form, numbers: &[u32], left: usize) -> Result<Header, ReaderFault>
+    ensures read { Gives (λ x. x) result (header_of form numbers.now) }
+    ensures small { IfOk result IsSmall }
+{
+    match numbers {
+        [greatest, inputs, latches, outputs, gates, more @ ..] => {
+            if let Some(section) = left_out(more) {
+                return Err(ReaderFault::LeftOut(section));
+            }
+            if *greatest > MOST || *outputs > MOST {
+                return Err(ReaderFault::TooLarge);
+            }
+            if !fits(form, *greatest, *inputs, *latches, *gates) {
+                return Err(ReaderFault::Syntax(left));
+            }
+            Ok(Header {
+                form,
+                greatest: *greatest,
+                inputs: *inputs,
+                latches: *latches,
+                outputs: *outputs,
+                gates: *gates,
+            })
+        }
+        _ => Err(ReaderFault::Syntax(left)),
+    }
+}
+
+/// What the first line says, and what follows it.
+#[tactic(auto, unfolding(crate::specs::Mirrors::Headers::header_at))]
+pub(crate) fn read_header(alloc: Global, bytes: &[u8]) -> Result<(Header, &[u8]), ReaderFault>
+    ensures read { Gives (λ x. (x.0, x.1.now)) result (header_at bytes.now) }
+    ensures small { IfOk result (λ x. IsSmall x.0) }
+{
+    match form(bytes) {
+        None => Err(ReaderFault::Syntax(bytes.len())),
+        Some((form, text)) => {
+            let mut numbers = Vec::new(alloc);
+            let rest = line(9, &mut numbers, text)?;
+            let header = header_of(form, &numbers, text.len())?;
+            Ok((header, rest))
+        }
+    }
+}

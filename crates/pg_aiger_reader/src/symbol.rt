@@ -1,0 +1,143 @@
+//! Symbols: which input, latch or output has which name.
+
+ghost use Rattle.std.specs.Prelude.{◌≡◌, ◌+◌, length, map, option_map};
+ghost use Rattle.std.specs.List.{prefix_len};
+ghost use Rattle.pg_aiger_reader.specs.CircuitText.{is_inner};
+ghost use Rattle.pg_aiger_reader.specs.Mirrors.Steps.{Gives};
+ghost use Rattle.pg_aiger_reader.specs.Views.{kind_in, symbol_in};
+ghost use Rattle.pg_aiger_reader.specs.Mirrors.Symbols.{count_in, kind_at, is_end, name_at, symbol_at, good_at, symbols_at};
+
+use crate::fault::ReaderFault;
+use crate::header::Header;
+use crate::number::field;
+use std::alloc::Global;
+
+/// What a symbol names.
+#[derive(Clone, Copy, Debug, PartialEq, Eq)]
+pub enum Kind {
+    Input,
+    Latch,
+    Output,
+}
+
+/// The name of an input, a latch or an output, which borrows the text.
+#[derive(Clone, Copy, Debug)]
+pub struct Symbol<'a> {
+    pub kind: Kind,
+    /// Which one of its kind, from 0 on.
+    pub position: u32,
+    pub name: &'a [u8],
+}
+
+/// What the letter says.
+fn kind_of(letter: u8) -> Option<Kind>
+    ensures { option_map kind_in result ≡ kind_at letter }
+{
+    match letter {
+        b'i' => Some(Kind::Input),
+        b'l' => Some(Kind::Latch),
+        b'o' => Some(Kind::Output),
+        _ => None,
+    }
+}
+
+/// Whether a text ends here, or has only a comment.
+fn is_end(bytes: &[u8]) -> bool
+    ensures { result ≡ is_end bytes.now }
+{
+    matches!(bytes, [] | [b'c', b'\n', ..])
+}
+
+/// How many bytes stand before the next newline.
+fn inner(bytes: &[u8]) -> usize
+    ensures { result ≡ prefix_len is_inner bytes.now }
+{
+    bytes.iter().take_while(|byte| **byte != b'\n').count()
+}
+
+/// What stands before the next newline, and what follows that.
+#[tactic(auto, using(pg_list_lemmas::proofs::Runs::run_within), unfolding(crate::specs::Mirrors::Symbols::name_at))]
+fn name(bytes: &[u8]) -> Result<(&[u8], &[u8]), ReaderFault>
+    ensures { Gives (λ x. (x.0.now, x.1.now)) result (name_at bytes.now) }
+{
+    let len = inner(bytes);
+    if len < bytes.len() {
+        Ok((&bytes[..len], &bytes[len + 1..]))
+    } else {
+        Err(ReaderFault::Syntax(0))
+    }
+}
+
+/// A symbol: a letter, a position, a space, and the name up to the end of the line.
+#[tactic(auto, unfolding(crate::specs::Mirrors::Symbols::symbol_at))]
+fn read_symbol(bytes: &[u8]) -> Result<(Symbol<'_>, &[u8]), ReaderFault>
+    ensures { Gives (λ x. (symbol_in x.0, x.1.now)) result (symbol_at bytes.now) }
+{
+    match bytes {
+        [] => Err(ReaderFault::Syntax(0)),
+        [letter, digits @ ..] => match kind_of(*letter) {
+            None => Err(ReaderFault::Syntax(bytes.len())),
+            Some(kind) => {
+                let (position, last, text) = field(digits)?;
+                if last {
+                    return Err(ReaderFault::Syntax(text.len()));
+                }
+                let (name, rest) = name(text)?;
+                Ok((
+                    Symbol {
+                        kind,
+                        position,
+                        name,
+                    },
+                    rest,
+                ))
+            }
+        },
+    }
+}
+
+/// How many of a kind there are.
+fn count_of(header: &Header, kind: Kind) -> u32
+    ensures { result ≡ count_in header.now (kind_in kind) }
+{
+    match kind {
+        Kind::Input => header.inputs,
+        Kind::Latch => header.latches,
+        Kind::Output => header.outputs,
+    }
+}
+
+/// A symbol that names something.
+#[tactic(auto, unfolding(crate::specs::Mirrors::Symbols::good_at))]
+fn good_symbol<'a>(header: &Header, bytes: &'a [u8]) -> Result<(Symbol<'a>, &'a [u8]), ReaderFault>
+    ensures { Gives (λ x. (symbol_in x.0, x.1.now)) result (good_at header.now bytes.now) }
+{
+    let (symbol, rest) = read_symbol(bytes)?;
+    if symbol.position < count_of(header, symbol.kind) {
+        Ok((symbol, rest))
+    } else {
+        Err(ReaderFault::Syntax(bytes.len()))
+    }
+}
+
+/// The symbols up to the end or a comment, each of which names something.
+pub(crate) fn symbols<'a>(
+    alloc: Global,
+    header: &Header,
+    bytes: &'a [u8],
+) -> Result<Vec<Symbol<'a>>, ReaderFault>
+    ensures { Gives (λ x. map symbol_in x.items) result (symbols_at header.now (length bytes.now + 1) bytes.now) }
+{
+    let mut symbols = Vec::new(alloc);
+    let mut rest = bytes;
+    // a symbol takes a byte at least
+    for _ in 0..bytes.len() + 1 {
+        if is_end(rest) {
+            return Ok(symbols);
+        }
+        let (symbol, after) = good_symbol(header, rest)?;
+        symbols.push(symbol)?;
+        rest = after;
+    }
+    Err(ReaderFault::Syntax(rest.len()))
+}

@@ -1,5 +1,0 @@
-use Rattle.std.proofs.Common.{◌≡◌}
-use Rattle.pg_map_lift.proofs.lifting.lift_one.Given as goal
-
-abbrev pub invariant-proposals : goal.invariant-proposals
-invariant-proposals g l = l.map ≡ l.initial.map
