@@ -22,12 +22,12 @@ PICTURES = {"two": ["examples/two.pg"], "sender": ["examples/sender.pg", "exampl
 TEXTS = {"sender-wrong": {"game": (TOP / "examples/sender.pg").read_bytes(),
                           "wrong": (TOP / "examples/sender.solution").read_bytes().replace(b"\n0 0 2;", b"\n0 0 1;"),
                           "verdict": b"CYCLE 1 3,0,1\n"}}
-OWNERS = "diamonds belong to Even (player 0), boxes to Odd (player 1)"
-WINS = "Even wins from the blue vertices, Odd from the orange ones; a heavy edge says where the winner goes"
+OWNERS = "Diamonds belong to Even (player 0), boxes to Odd (player 1)"
+WINS = "Even wins from the blue vertices, Odd from the orange ones\\nA heavy edge says where the winner goes"
 
 GAME = b'start 7; 7 2 0 7,3,7 "seven \\ & &lt; \xc3\xa9\xff";\n3 65535\n1 7\n;'
 GAME_GRAPH = f"""digraph game {{
-    graph [label="3: 65535 is vertex 3 with priority 65535; {OWNERS}", nslimit=1, nslimit1=1];
+    graph [label="3: 65535 is vertex 3 with priority 65535\\n{OWNERS}", nslimit=1, nslimit1=1];
     3 [label="3: 65535", shape=box];
     7 [label="7: 2\\nseven \\\\ & &amp;lt; \u00e9\ufffd", shape=diamond];
     3 -> 7;
@@ -38,7 +38,7 @@ GAME_GRAPH = f"""digraph game {{
 THREE = b'parity 2;\n0 0 1 0,1;\n1 1 1 1,2 "odd";\n2 2 0 0,2;\n'
 SOLUTION = b"paritysol 2;\n2 0 2;\n0 1 1;\n1 1 1;\n"
 SOLVED_GRAPH = f"""digraph game {{
-    graph [label="0: 0 is vertex 0 with priority 0; {OWNERS}\\n{WINS}", nslimit=1, nslimit1=1];
+    graph [label="0: 0 is vertex 0 with priority 0\\n{OWNERS}\\n{WINS}", nslimit=1, nslimit1=1];
     0 [label="0: 0", shape=box, style=filled, fillcolor="#e69f00"];
     1 [label="1: 1\\nodd", shape=box, style=filled, fillcolor="#e69f00"];
     2 [label="2: 2", shape=diamond, style=filled, fillcolor="#a6d8f5"];
