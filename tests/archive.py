@@ -15,6 +15,7 @@ TYPED = [
     ("bin/parsolve solve share/parsolve/examples/mutex.pg", (EXAMPLES / "mutex.solution").read_text()),
     ("bin/parsolve check share/parsolve/examples/mutex.pg share/parsolve/examples/mutex.solution", "WINS\n"),
     ("bin/parsolve-hoa --outs grant share/parsolve/examples/spot-implicit.hoa | bin/parsolve synth | sed -n 1p", "REALIZABLE\n"),
+    ("echo '/* */ 0 0 0 0;' | bin/parsolve-pg 2> note | bin/parsolve solve | sed -n 2p; rm note", "0 0 0;\n"),
     ("bin/parsolve synth share/parsolve/examples/request-grant.hoa > answer; echo request | bin/parsolve-circuit simulate answer | wc -l", "2\n"),
     ("bin/parsolve-draw --dot share/parsolve/examples/two.pg | sed -n 1p", "digraph game {\n"),
     ("echo 'workers 1;' | bin/parsolve-draw --replay share/parsolve/examples/two.pg - | wc -l", "2\n"),

@@ -18,12 +18,16 @@ PICTURES = {"two": ["examples/two.pg"], "sender": ["examples/sender.pg", "exampl
             "request-grant": ["examples/request-grant.hoa"], "traffic-light": ["examples/traffic-light.hoa"],
             "priorities": ["examples/priorities.hoa"],
             "foresight": ["--automaton", "examples/foresight.hoa", "examples/foresight.pg", "examples/foresight.solution"]}
-NAMES, WINS = ("IDENTIFIER: PRIORITY of each vertex, diamonds are Even's, boxes are Odd's",
-               "Even wins from the blue ones, Odd from the orange ones, by the heavy edges")
+# pictures of texts that stand in no file: a wrong solution and what `check` says of it
+TEXTS = {"sender-wrong": {"game": (TOP / "examples/sender.pg").read_bytes(),
+                          "wrong": (TOP / "examples/sender.solution").read_bytes().replace(b"\n0 0 2;", b"\n0 0 1;"),
+                          "verdict": b"CYCLE 1 3,0,1\n"}}
+OWNERS = "Diamonds belong to Even (player 0), boxes to Odd (player 1)"
+WINS = "Even wins from the blue vertices, Odd from the orange ones\\nA heavy edge says where the winner goes"
 
 GAME = b'start 7; 7 2 0 7,3,7 "seven \\ & &lt; \xc3\xa9\xff";\n3 65535\n1 7\n;'
 GAME_GRAPH = f"""digraph game {{
-    graph [label="{NAMES}", nslimit=1, nslimit1=1];
+    graph [label="3: 65535 is vertex 3 with priority 65535\\n{OWNERS}", nslimit=1, nslimit1=1];
     3 [label="3: 65535", shape=box];
     7 [label="7: 2\\nseven \\\\ & &amp;lt; \u00e9\ufffd", shape=diamond];
     3 -> 7;
@@ -34,7 +38,7 @@ GAME_GRAPH = f"""digraph game {{
 THREE = b'parity 2;\n0 0 1 0,1;\n1 1 1 1,2 "odd";\n2 2 0 0,2;\n'
 SOLUTION = b"paritysol 2;\n2 0 2;\n0 1 1;\n1 1 1;\n"
 SOLVED_GRAPH = f"""digraph game {{
-    graph [label="{NAMES}\\n{WINS}", nslimit=1, nslimit1=1];
+    graph [label="0: 0 is vertex 0 with priority 0\\n{OWNERS}\\n{WINS}", nslimit=1, nslimit1=1];
     0 [label="0: 0", shape=box, style=filled, fillcolor="#e69f00"];
     1 [label="1: 1\\nodd", shape=box, style=filled, fillcolor="#e69f00"];
     2 [label="2: 2", shape=diamond, style=filled, fillcolor="#a6d8f5"];
@@ -46,31 +50,36 @@ SOLVED_GRAPH = f"""digraph game {{
     2 -> 2 [penwidth=3];
 }}
 """
-AUTOMATON = b"""/* a /* nested */ comment */ HOA: v1
-Start: 1 AP: 2 "a" "b \\"c\\"" properties: complete properties: deterministic
+AUTOMATON = b"""/* a /* nested */ comment */ HOA: v1.1
+Start: 1 Alias: @b 1 AP: 2 "a" "b \\"c\\"" properties: complete properties: deterministic
 Acceptance: 2 Fin(1)&(Inf(0)) controllable-AP: 1
 --BODY--
-State: 1 "\xc3\xa9" {0 1} [!0&!(1|0)] 2 {1} [t]/**/1
-State: 0
+State: 1 "\xc3\xa9" {0 1} [!0&!(@b|0)] 2 {1} [0]/**/1 [!0&@b] 1 {1}
+State: [t] 0 2 {0}
 --END--
 """
 AUTOMATON_GRAPH = """digraph automaton {
-    graph [label="Acceptance: 2 Fin(1) & (Inf(0))\\nControllable: \\"b \\"c\\"\\"", nslimit=1, nslimit1=1, rankdir=LR];
+    graph [label="Acceptance: 2 Fin(1)&(Inf(0))\\nControllable: \\"b \\"c\\"\\"", nslimit=1, nslimit1=1];
     start [shape=point];
     start -> 1;
     0 [label="0"];
     1 [label="1\\n\u00e9\\n{0 1}"];
     2 [label="2"];
-    1 -> 2 [label="!a & !(\\"b \\"c\\"\\" | a) {1}"];
-    1 -> 1 [label="t"];
+    0 -> 2 [label="t {0}"];
+    1 -> 2 [label="!a&!\\"b \\"c\\"\\" {1}"];
+    1 -> 1 [label="a\\n!a&\\"b \\"c\\"\\" {1}"];
 }
 """
+# a label of several lines: that neither of two, or both, or just the third of these hold
+LONG_NAMES = ["the_first_of_the_propositions", "the_second_of_the_propositions"]
+LONG = ('HOA: v1 Start: 0 AP: 2 "%s" "%s" Acceptance: 1 Inf(0) --BODY-- State: 0 [!0&!1|0&1] 0 {0} --END--' % (*LONG_NAMES,)).encode()
+LONG_LABEL = "{0}&amp;{1}\\n| !{0}&!{1} {{0}}".format(*LONG_NAMES)
 # verdicts on THREE and SOLUTION: what is said of them, and the lines of their edges
 VERDICTS = {
-    b"WINS\n": ("WINS: each winner wins, by the heavy edges", []),
+    b"WINS\n": ("WINS: each winner wins by the heavy edges", []),
     b"LEAVES 2 0\n": ("LEAVES: the red edge goes to a vertex of the other winner", ['2 -> 0 [color="#c00000", style=dashed]']),
-    b"CYCLE 1 1\n": ("CYCLE: on the red edges 1 is the greatest priority", ['1 -> 1 [penwidth=3, color="#c00000", style=dashed]']),
-    b"CYCLE 2 0,1,2\n": ("CYCLE: on the red edges 2 is the greatest priority",
+    b"CYCLE 1 1\n": ("CYCLE: 1 is the greatest priority on the red cycle, so Odd wins it", ['1 -> 1 [penwidth=3, color="#c00000", style=dashed]']),
+    b"CYCLE 2 0,1,2\n": ("CYCLE: 2 is the greatest priority on the red cycle, so Even wins it",
                          ['0 -> 1 [penwidth=3, color="#c00000", style=dashed]', '1 -> 2 [color="#c00000", style=dashed]',
                           '2 -> 0 [color="#c00000", style=dashed]']),
 }
@@ -95,13 +104,13 @@ LETTERS = ['4 -> 2 [label="t"]', '5 -> 7 [label="t"]', '9 -> 2 [label="grant"]',
 SELF = {0: '0 -> 0 [color="#b8b8b8"]', 1: "1 -> 1 [penwidth=3]", 2: "2 -> 2 [penwidth=3]"}
 ALL = [SELF[0], "0 -> 1 [penwidth=3]", SELF[1], '1 -> 2 [color="#b8b8b8"]', '2 -> 0 [color="#b8b8b8"]', SELF[2]]
 PARTS = [
-    (b"start 0;", [], "start -> 0", [], ["0 -> 1 [penwidth=3]", SELF[1]], "2 of 3 vertices: what is reached from 0"),
+    (b"start 0;", [], "start -> 0", [], ["0 -> 1 [penwidth=3]", SELF[1]], "2 of 3 vertices: those that are reached from 0"),
     (b"start 0;", ["--all"], "", [], ALL, ""),
     (b"start 9;", [], "", [], ALL, ""),
-    (b"start 0;", ["--from", "2"], "start -> 2", [], [SELF[2]], "1 of 3 vertices: what is reached from 2"),
-    (b"start 0;", ["--depth", "0"], "start -> 0", ["0"], [], "1 of 3 vertices: what is reached from 0"),
+    (b"start 0;", ["--from", "2"], "start -> 2", [], [SELF[2]], "1 of 3 vertices: those that are reached from 2"),
+    (b"start 0;", ["--depth", "0"], "start -> 0", ["0"], [], "1 of 3 vertices: those that are reached from 0"),
     (b"", ["--all", "--from", "2", "--depth", "1"], "start -> 2", ["0"], [SELF[0], '2 -> 0 [color="#b8b8b8"]', SELF[2]],
-     "2 of 3 vertices: what is reached from 2"),
+     "2 of 3 vertices: those that are reached from 2"),
     (b"", ["--all", "--from", "2"], "start -> 2", [], ALL, ""),
 ]
 # the game of GAME_OF_GRANTS, won by the controller everywhere but where the run has ended
@@ -134,10 +143,24 @@ RING = b"".join(b"%d 0 0 %d;" % (vertex, (vertex + 1) % 300) for vertex in range
 CHAIN = b"".join(b"%d 0 0 %d;" % (vertex, vertex) for vertex in range(201))
 STATES = b'HOA: v1 States: %d Start: 0 Acceptance: 0 t --BODY-- --END--'
 HEAD = b"HOA: v1 Start: 0 Acceptance: 1 Inf(0) "
+# an automaton of 16 states, with an edge from each to each
+TOTAL = b'HOA: v1 Start: 0 AP: 4 "a" "b" "c" "d" Acceptance: 0 t --BODY--\n%s--END--' % b"".join(
+    b"State: %d %s\n" % (state, b" ".join(b"%d" % target for target in range(16))) for state in range(16))
+MANY = "too many for a picture: --from ID --depth N draws a part, and --text says the strategy in words"
+MANY_STATES = "too many for a picture: with --automaton a part of its game can be drawn"
+
+
+def chords(count):
+    """A ring of 200 vertices, of which the first have an edge across it too."""
+    return b"".join(b"%d 0 0 %d%s;" % (it, (it + 1) % 200, b",%d" % ((7 * it + 90) % 200) if it < count else b"") for it in range(200))
+
+
 REFUSED = [
-    ("many: more than 200 vertices, too many for a picture: --from ID --depth N draws a part", {"many": CHAIN}),
-    ("states: more than 200 states, too many for a picture", {"states": STATES % 201}),
-    ("states: more than 200 states, too many for a picture", {"states": HEAD + b"--BODY-- State: 200 --END--"}),
+    (f"many: more than 200 vertices, {MANY}", {"many": CHAIN}),
+    (f"many: more than 250 edges, {MANY}", {"many": chords(51)}),
+    (f"states: more than 200 states, {MANY_STATES}", {"states": STATES % 201}),
+    (f"states: more than 200 states, {MANY_STATES}", {"states": HEAD + b"--BODY-- State: 200 --END--"}),
+    (f"states: more than 250 edges, {MANY_STATES}", {"states": TOTAL}),
     ("empty: no vertex", {"empty": b" \n"}),
     ("damaged: syntax error at byte 8", {"damaged": b"0 0 0 0 1;"}),
     ("damaged: syntax error at byte 8", {"damaged": b'0 0 0 0 "name;'}),
@@ -153,11 +176,8 @@ REFUSED = [
     ("other: vertex 0 is answered twice", {"game": THREE, "other": b"0 1 1;0 1 1;"}),
     ("automaton is an automaton, which has no solution", {"automaton": AUTOMATON, "solution": SOLUTION}),
     ("damaged: missing header Acceptance at byte 17", {"damaged": b"HOA: v1 Start: 0 --BODY-- --END--"}),
-    ("damaged: header Alias at byte 38 can't stand there", {"damaged": HEAD + b"Alias: @a 0"}),
-    ("damaged: header Start at byte 38 can't stand there", {"damaged": HEAD + b"Start: 1"}),
-    ("damaged: the values of header AP don't fit before byte 48", {"damaged": HEAD + b'AP: 2 "a" --BODY--'}),
-    ("damaged: number out of range at byte 57", {"damaged": HEAD + b"--BODY-- State: 0 [0] 0 --END--"}),
-    ("damaged: syntax error at byte 60", {"damaged": HEAD + b"--BODY-- State: 0 [(t ] 0 --END--"}),
+    ("damaged: a second Start:, at byte 38, isn't read", {"damaged": HEAD + b"Start: 1"}),
+    ("damaged: state 0 is not deterministic at letter 0", {"damaged": HEAD + b"--BODY-- State: 0 [t] 0 [t] 0 {0} --END--"}),
     ("damaged: syntax error at byte 38", {"damaged": HEAD + b"/* /* */"}),
     ("nothing: No such file or directory", {"nothing": None}),
     ("said: a verdict is WINS, LEAVES V W or CYCLE P V,V,..", {"game": THREE, "solution": SOLUTION, "said": b"LOSES\n"}),
@@ -203,14 +223,22 @@ def drawn(words, texts=None):
     return ran.returncode, ran.stdout.decode(), ran.stderr.decode()
 
 
+def pictures_kept():
+    """The name, files and texts of each picture of docs/pictures/."""
+    yield from ((name, files, None) for name, files in PICTURES.items())
+    yield from ((name, [], texts) for name, texts in TEXTS.items())
+
+
 def graphs():
     """(what is checked, what came out, what has to) for each text for Graphviz."""
     yield "a game", drawn(["--dot"], {"game": GAME}), (0, GAME_GRAPH, "")
     yield "a solution", drawn(["--dot"], {"game": THREE, "solution": SOLUTION}), (0, SOLVED_GRAPH, "")
     yield "an automaton", drawn(["--dot"], {"automaton": AUTOMATON}), (0, AUTOMATON_GRAPH, "")
-    for name, files in PICTURES.items():
+    status, text, errors = drawn(["--dot"], {"automaton": LONG})
+    yield "a long label", (status, lines_with(text, "0 -> 0"), errors), (0, [f'0 -> 0 [label="{LONG_LABEL}"]'], "")
+    for name, files, texts in pictures_kept():
         graph = (TOP / f"docs/pictures/{name}.dot").read_text()
-        yield f"docs/pictures/{name}.dot", drawn(["--dot", *files]), (0, graph, "")
+        yield f"docs/pictures/{name}.dot", drawn(["--dot", *files], texts), (0, graph, "")
     for text in (CHAIN[:CHAIN.rindex(b"200 0")], STATES % 200):
         yield "200 are drawn", drawn(["--dot"], {"many": text})[::2], (0, "")
 
@@ -224,7 +252,7 @@ def verdicts():
     """The same for verdicts, and for the game of an automaton in its words."""
     for verdict, (said, edges) in VERDICTS.items():
         status, text, errors = drawn(["--dot"], {"game": THREE, "solution": SOLUTION, "said": verdict})
-        yield verdict, (status, f"{NAMES}\\n{WINS}\\n{said}" in text, lines_with(text, "->", "dashed"), errors), (0, True, edges, "")
+        yield verdict, (status, f"{OWNERS}\\n{WINS}\\n{said}" in text, lines_with(text, "->", "dashed"), errors), (0, True, edges, "")
     words = ["--dot", "--automaton", TOP / "examples/request-grant.hoa"]
     status, text, errors = drawn(words, {"game": GAME_OF_GRANTS})
     vertices = [line.split('"')[1] for line in lines_with(text, "shape=")]
@@ -290,6 +318,8 @@ def pictures():
         return
     status, output, errors = drawn(PICTURES["two"])
     yield "a picture", (status, "<svg" in output and output.endswith("</svg>\n"), errors), (0, True, "")
+    status, output, errors = drawn([], {"many": chords(50)})
+    yield "as many edges as are drawn", (status, output.count('class="edge"'), errors), (0, 250, "")
 
 
 def tables(program):
@@ -304,9 +334,9 @@ Tests = case.tests(__name__, graphs, verdicts, parts, places, refusals, pictures
 
 
 if __name__ == "__main__":
-    for name, files in PICTURES.items():
+    for name, files, texts in pictures_kept():
         for kind, words in (("dot", ["--dot"]), ("svg", [])):
-            status, output, errors = drawn([*words, *files])
+            status, output, errors = drawn([*words, *files], texts)
             if status:
                 sys.exit(errors)
             (TOP / f"docs/pictures/{name}.{kind}").write_text(output)

@@ -376,7 +376,7 @@ def installing(copy):
     folder = copy.top.parent / "a prefix"
     for part in ("share", "examples"):
         copy.write(copy.top / part / "some/file", part)
-    for name in ("circuit", "draw", "hoa", "where", "games.py"):
+    for name in ("circuit", "draw", "hoa", "pg", "where", "games.py"):
         copy.write(copy.top / "tools" / name, "print('here')")
     for name in ("release/README.md", "LICENSE-APACHE", "LICENSE-MIT"):
         copy.write(copy.top / name, name)

@@ -108,12 +108,13 @@ def read_verdict(text, game):
     if not VERDICT.fullmatch(text):
         raise Fault("a verdict is WINS, LEAVES V W or CYCLE P V,V,..")
     if text.startswith(b"WINS"):
-        return [], "WINS: each winner wins, by the heavy edges"
+        return [], "WINS: each winner wins by the heavy edges"
     first, *others = map(int, re.findall(rb"\d+", text))
     if text.startswith(b"LEAVES"):
         edges, said = [(first, *others)], "LEAVES: the red edge goes to a vertex of the other winner"
     else:
-        edges, said = list(zip(others, others[1:] + others[:1])), f"CYCLE: on the red edges {first} is the greatest priority"
+        edges = list(zip(others, others[1:] + others[:1]))
+        said = f"CYCLE: {first} is the greatest priority on the red cycle, so {('Even', 'Odd')[first % 2]} wins it"
     for number, successor in edges:
         if number not in game.vertices or successor not in game.vertices[number].successors:
             raise Fault(f"the game has no edge from {number} to {successor}")
