@@ -2,7 +2,7 @@
 #![tactic(auto)]
 
 use pg_arena::Game;
-use pg_cli_command::{Solver, Maps};
+use pg_cli_command::{Maps, Solver};
 use pg_solver::Found;
 use std::alloc::{AllocError, Global};
 
