@@ -18,7 +18,7 @@ READERS = [  # each has to read its file without a word
     ["fish", "-n", FISH],
     ["groff", "-man", "-Tutf8", "-ww", "-z", SHARE / "man/man1/parsolve.1"],
 ]
-COMMANDS = ["check", "game", "measure", "replay", "solve", "synth", "worker"]
+COMMANDS = ["check", "game", "measure", "replay", "solve", "synth", "verify", "worker"]
 # words that were typed, the last of which is to be completed, and what has to be offered
 TYPED = [(["parsolve", ""], [*COMMANDS, "--help", "--version", "-h", "-V"]), (["parsolve", "s"], ["solve", "synth"]),
          (["parsolve", "solve", "--"], ["--workers", "--apart", "--any", "--stats", "--help"]), (["parsolve", "check", "--"], ["--stats", "--help"]),

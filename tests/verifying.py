@@ -143,32 +143,32 @@ def names(program):
     yield "names in another order", asked(program, two, crossed), (0, b"ACCEPTED\n", b"")
     yield "the order of places", asked(program, two, crossed, "--by-place")[1].split(b"\n")[0], b"STUCK"
     yield "no names, by place", asked(program, AUTOMATON, b"aag 1 1 0 1 0\n2\n2\n", "--by-place"), (0, b"ACCEPTED\n", b"")
-    yield "an output that is constant", asked(program, AUTOMATON, WIRE.replace(b"2\n2\n2\n", b"2\n0\n0\n"))[0], 1
     yield "inputs in the circuit's order", asked(program, two, b"aag 2 2 0 1 0\n2\n4\n5\ni0 s\ni1 r\no0 g\n")[1].split(b"\n")[0], b"STUCK"
 
 
 REFUSED = {
-    "no names": (b"aag 1 1 0 1 0\n2\n2\n", rb"by-place"),
-    "an input that isn't there": (b"aag 0 0 0 1 0\n0\no0 g\n", rb"input.* r\b"),
-    "an output that isn't there": (b"aag 1 1 0 0 0\n2\ni0 r\n", rb"output.* g\b"),
-    "an input more": (b"aag 2 2 0 1 0\n2\n4\n2\ni0 r\ni1 tick\no0 g\n", rb"input.*tick"),
-    "an output more": (b"aag 1 1 0 2 0\n2\n2\n3\ni0 r\no0 g\no1 h\n", rb"output.*h\b"),
-    "a name twice": (b"aag 2 2 0 1 0\n2\n4\n2\ni0 r\ni1 r\no0 g\n", rb"r\b"),
-    "a latch that starts at 1": (b"aag 2 1 1 1 0\n2\n4 2 1\n4\ni0 r\no0 g\n", rb"latch 0"),
-    "a cycle": (b"aag 3 1 0 1 2\n2\n4\n4 6 2\n6 4 2\ni0 r\no0 g\n", rb"cycle"),
-    "a variable that nothing defines": (b"aag 3 1 0 1 0\n2\n6\ni0 r\no0 g\n", rb"variable 3"),
-    "a variable that is defined twice": (b"aag 2 1 0 1 2\n2\n4\n4 2 2\n4 3 2\ni0 r\no0 g\n", rb"variable 2"),
-    "a bad state": (b"aag 1 1 0 1 0 1\n2\n2\n2\ni0 r\no0 g\n", rb"bad"),
-    "no circuit": (b"module\n", rb"syntax error at byte 0"),
+    "no names": (b"aag 1 1 0 1 0\n2\n2\n", "the inputs and outputs have no names; --by-place takes them in order"),
+    "an input that isn't there": (b"aag 0 0 0 1 0\n0\no0 g\n", "no input for proposition 0 of the inputs"),
+    "an output that isn't there": (b"aag 1 1 0 0 0\n2\ni0 r\n", "no output for proposition 0 of the outputs"),
+    "an input more": (b"aag 2 2 0 1 0\n2\n4\n2\ni0 r\ni1 tick\no0 g\n", "the circuit has an input more: input 1"),
+    "an output more": (b"aag 1 1 0 2 0\n2\n2\n3\ni0 r\no0 g\no1 h\n", "the circuit has an output more: output 1"),
+    "a name twice": (b"aag 2 2 0 1 0\n2\n4\n2\ni0 r\ni1 r\no0 g\n", "two inputs for proposition 0 of the inputs"),
+    "a latch that starts at 1": (b"aag 2 1 1 1 0\n2\n4 2 1\n4\ni0 r\no0 g\n", "latch 0 does not start at 0"),
+    "a variable that nothing defines": (b"aag 3 1 0 1 0\n2\n6\ni0 r\no0 g\n", "variable 3 of the circuit is used and not defined"),
+    "a variable that is defined twice": (b"aag 3 1 0 1 2\n2\n4\n4 2 2\n4 3 2\ni0 r\no0 g\n", "variable 2 of the circuit is defined twice"),
+    "a literal that is negated": (b"aag 1 1 0 1 0\n3\n2\ni0 r\no0 g\n", "literal 3 of the circuit defines no variable"),
+    "a bad state": (b"aag 1 1 0 1 0 1\n2\n2\n2\ni0 r\no0 g\n", "the circuit has bad-state properties, which are not read"),
+    "no circuit": (b"module\n", "syntax error at byte 0"),
 }
 
 
 def refusals(program):
     """What is no circuit for the automaton is refused by one line, with status 1 and no output."""
     for name, (circuit, told) in REFUSED.items():
-        status, output, errors = asked(program, AUTOMATON, circuit)
-        is_told = status == 1 and output == b"" and re.fullmatch(rb"parsolve: .*%s.*\n" % told, errors)
-        yield name, None if is_told else f"status {status}, {output!r}, {errors!r}"
+        yield name, asked(program, AUTOMATON, circuit), (1, b"", f"parsolve: {told}\n".encode())
+    status, output, errors = asked(program, AUTOMATON, b"aag 3 1 0 1 2\n2\n4\n4 6 2\n6 4 2\ni0 r\no0 g\n")
+    is_told = re.fullmatch(rb"parsolve: the gate of variable [23] stands in a cycle\n", errors)
+    yield "a cycle", None if (status, output) == (1, b"") and is_told else f"status {status}, {output!r}, {errors!r}"
     yield "an automaton that is none", asked(program, b"HOA: v2\n", WIRE)[:2], (1, b"")
     yield "one input without a line --", subprocess.run([program, "verify"], input=AUTOMATON, capture_output=True).stderr, \
         b"parsolve: no line -- between the two texts\n"
