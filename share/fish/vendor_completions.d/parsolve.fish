@@ -6,6 +6,7 @@ complete -c parsolve -n __fish_use_subcommand -a check -d 'Prints whether a solu
 complete -c parsolve -n __fish_use_subcommand -a replay -d 'Prints what workers make of a game under a script of lifts, deliveries and restarts'
 complete -c parsolve -n __fish_use_subcommand -a game -d 'Prints the parity game of an automaton'
 complete -c parsolve -n __fish_use_subcommand -a synth -d 'Prints a controller for an automaton, as a circuit'
+complete -c parsolve -n __fish_use_subcommand -a verify -d 'Prints whether an automaton accepts each run of a circuit'
 complete -c parsolve -n __fish_use_subcommand -a worker -d 'Lifts vertices for a solver that has started it; `--apart` of measure, solve and synth does'
 complete -c parsolve -n '__fish_use_subcommand' -s h -l help -d 'Print help'
 complete -c parsolve -n '__fish_use_subcommand' -s V -l version -d 'Print version'
@@ -29,6 +30,10 @@ complete -c parsolve -n '__fish_seen_subcommand_from synth' -l apart -r -F -d 'S
 complete -c parsolve -n '__fish_seen_subcommand_from synth' -l outs -x -d 'The names of the controllable propositions, with commas between, in place of the header'
 complete -c parsolve -n '__fish_seen_subcommand_from synth' -l stats -d 'Tell counts and seconds on the error stream, behind the answer'
 complete -c parsolve -n '__fish_seen_subcommand_from synth' -s h -l help -d 'Print help'
+complete -c parsolve -n '__fish_seen_subcommand_from verify' -l by-place -d 'Take the circuit\'s inputs and outputs in the order of the propositions, and not by their names'
+complete -c parsolve -n '__fish_seen_subcommand_from verify' -l outs -x -d 'The names of the controllable propositions, with commas between, in place of the header'
+complete -c parsolve -n '__fish_seen_subcommand_from verify' -l stats -d 'Tell counts and seconds on the error stream, behind the answer'
+complete -c parsolve -n '__fish_seen_subcommand_from verify' -s h -l help -d 'Print help'
 complete -c parsolve -n '__fish_seen_subcommand_from worker' -l port -x -d 'The port of 127.0.0.1 to connect to, from 1 to 65535'
 complete -c parsolve -n '__fish_seen_subcommand_from worker' -s h -l help -d 'Print help'
 complete -c parsolve -n '__fish_seen_subcommand_from measure' -F
@@ -37,3 +42,4 @@ complete -c parsolve -n '__fish_seen_subcommand_from check' -F
 complete -c parsolve -n '__fish_seen_subcommand_from replay' -F
 complete -c parsolve -n '__fish_seen_subcommand_from game' -F
 complete -c parsolve -n '__fish_seen_subcommand_from synth' -F
+complete -c parsolve -n '__fish_seen_subcommand_from verify' -F
