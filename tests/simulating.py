@@ -68,7 +68,7 @@ REFUSED = {
     "aag 4000000000 4000000000 0 0 0\n": "it ends too early",
     "aag 1 1 0 1 0\n" + "1" * 5000 + "\n2\n": "line 2 is damaged",
     "aig 1 0 1 0 0\n": "it ends too early",
-    "aig 1 0 1 0 0\n2 0\n": "line 2 is damaged",
+    "aig 1 0 1 0 0\n2 1\n": "line 2 is damaged",
     "aig 1 0 0 0 1\n\1": "it ends too early",
     "aig 1 0 0 0 1\n\0\0": "a literal isn't of a variable before it",
     "aig 1 0 0 0 1\n\1\2": "a literal isn't of a variable before it",
@@ -77,11 +77,11 @@ REFUSED = {
     "aag 1 1 0 1\n": "line 1 is damaged",
     "aag 1 1 0 1 0\n2\n": "line 3 is damaged",
     "aag 1 1 0 1 0\n2": "it ends too early",
-    "aag 1 1 0 1 0\n4\n2\n": "its variables aren't in the order in which synth prints them",
-    "aag 2 1 0 1 0\n2\n2\n": "its variables aren't in the order in which synth prints them",
-    "aag 1 1 0 1 0\n2\n4\n": "a literal isn't of a variable before it",
-    "aag 2 1 0 1 1\n2\n4\n4 2 3\n": "a literal isn't of a variable before it",
-    "aag 2 1 0 1 1\n2\n4\n4 5 3\n": "a literal isn't of a variable before it",
+    "aag 1 1 0 1 0\n4\n2\n": "it uses a variable that nothing defines",
+    "aag 2 1 1 0 0\n2\n2 0\n": "it defines a variable twice, or a negation",
+    "aag 1 1 0 1 0\n2\n4\n": "it uses a variable that nothing defines",
+    "aag 2 1 0 1 1\n2\n4\n4 4 2\n": "its gates have a cycle, or use a variable that nothing defines",
+    "aag 2 1 0 1 1\n2\n4\n4 5 3\n": "its gates have a cycle, or use a variable that nothing defines",
 }
 
 
@@ -186,8 +186,8 @@ case $2 in *write_aiger*) if [ -e "$SMALL" ]; then cp "$SMALL" small.aig; fi ;; 
 """
 LONG = DELAY.replace("aag 2 1 1 1 0", "aag 3 1 1 1 1").replace("4\ni0", "4\n6 4 2\ni0")
 SAYS = "circuit: 1 gates and 1 latches, and in the smaller circuit 0 and 1\n"
-BY_ABC, BY_STEPS = "circuit: ABC compared the two circuits (dsec): they are equivalent\n", "circuit: 1000 steps of random inputs: both " \
-    "circuits answered the same, and no automaton stood beside them\n"
+BY_ABC, BY_STEPS = "circuit: ABC compared the two circuits (cec): they are equivalent\n", "circuit: 1000 steps of random inputs: both " \
+    "circuits answered the same\n"
 MADE_SMALL = {
     "equivalent": (DELAY_BINARY, "Networks are equivalent.", [], (0, DELAY, SAYS + BY_ABC + BY_STEPS)),
     "binary": (DELAY_BINARY, "Networks are equivalent.", ["--binary"], (0, DELAY_BINARY.decode(), SAYS + BY_ABC + BY_STEPS)),
@@ -198,8 +198,10 @@ MADE_SMALL = {
                 (1, "", SAYS + "circuit: circuit: ABC says that the smaller circuit does something else (dsec)\n")),
     "another": (DELAY_BINARY.replace(b"4\ni0", b"5\ni0"), "Networks are equivalent.", [],
                 (1, "", SAYS + BY_ABC + "circuit: circuit: the smaller circuit answers otherwise in step 0 of random inputs\n")),
-    "rejected": (DELAY_BINARY, "Networks are equivalent.", ["--automaton", "no edges"],
-                 (1, "", SAYS + BY_ABC + "circuit: circuit: the automaton rejects the smaller circuit in step 0 of random inputs: no edge\n")),
+    "accepted": (DELAY_BINARY, "Networks are equivalent.", ["--automaton", "no edges", "--program", "./accepts"],
+                 (0, DELAY, SAYS + BY_ABC + BY_STEPS + "circuit: parsolve verify looked at the smaller circuit: ACCEPTED\n")),
+    "rejected": (DELAY_BINARY, "Networks are equivalent.", ["--automaton", "no edges", "--program", "./sticks"],
+                 (1, "", SAYS + BY_ABC + BY_STEPS + "circuit: circuit: parsolve verify says of the smaller circuit: STUCK 0\n")),
     "no circuit": (None, "", [], (1, "", "circuit: circuit: ABC wrote no circuit: \n")),
 }
 
@@ -212,8 +214,9 @@ def made_small(small, said, words):
         if small is not None:
             (folder / "small").write_bytes(small)
         (folder / "no edges").write_text(NEVER.partition("State: 0")[0] + "--END--")
-        (folder / "berkeley-abc").write_text(ABC)
-        (folder / "berkeley-abc").chmod(0o755)
+        for name, script in (("berkeley-abc", ABC), ("accepts", "#!/bin/sh\necho ACCEPTED\n"), ("sticks", "#!/bin/sh\necho STUCK\necho 0\n")):
+            (folder / name).write_text(script)
+            (folder / name).chmod(0o755)
         more = {"PATH": f"{folder}:/usr/bin:/bin", "SMALL": str(folder / "small"), "SAID": said}
         ran = subprocess.run([sys.executable, TOP / "tools/circuit", "small", *words, "circuit"], cwd=folder, capture_output=True,
                              timeout=60, env={**os.environ, **more})
