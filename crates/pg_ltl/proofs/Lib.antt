@@ -1,0 +1,14 @@
+pub mod Choosing
+pub mod Holding
+pub mod Normality
+pub mod Nodes
+pub mod Pairs
+pub mod Machine
+pub mod Frames
+pub mod Shown
+pub mod Turning
+pub mod Names
+pub mod Spelling
+pub mod OneReading
+pub mod GoodNames
+pub mod OneStop

@@ -1,0 +1,9 @@
+pub mod Formulas
+pub mod NormalForms
+pub mod Tableaux
+pub mod FormulaTexts
+pub mod Words
+pub mod Texts
+pub mod FaultTexts
+pub mod Laws
+pub mod Mirrors

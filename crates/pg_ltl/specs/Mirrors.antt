@@ -1,0 +1,9 @@
+-- What mirrors code: contracts of private functions cite it, and no definition that a reader has to believe does.
+pub mod Nodes
+pub mod Views
+pub mod Pairs
+pub mod Machine
+pub mod Run
+pub mod Readings
+pub mod Scan
+pub mod Notes

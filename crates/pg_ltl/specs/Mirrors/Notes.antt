@@ -1,0 +1,54 @@
+-- The words of a text as tokens, as the code keeps them.
+use Rattle.std.specs.Prelude.{◌≡◌, ◌≢◌, ℕ, ◌+◌, ◌≤◌, ◌<◌, List, [], ◌∷◌, Option, Some, None, map, length}
+use Rattle.pg_ltl.specs.declared.fault.FormulaFault.{FormulaFault}
+use Rattle.pg_ltl.specs.declared.fault.FormulaFault.TheVariants.{Syntax, TooManyNames}
+use Rattle.pg_ltl.specs.declared.noting.Tokens.{Tokens}
+use Rattle.pg_ltl.specs.declared.noting.Stop.{Stop}
+use Rattle.pg_ltl.specs.declared.noting.Stop.TheVariants.{End, NoWord, Overfull}
+use Rattle.pg_ltl.specs.Words.{Word, behind_blanks, word_at}
+use Rattle.pg_ltl.specs.Texts.{Noted, noted}
+
+abbrev pub noted_in : Tokens → Noted
+noted_in t = record { names = map (λ v. v.items) t.names.items; tokens = t.tokens.items }
+
+abbrev pub stop_at : List ℕ → Stop
+stop_at [] = End
+stop_at (b ∷ bytes) = NoWord
+
+-- the bytes are these words, and the rest; of the text, which is so long, each word begins at its offset
+abbrev pub Placed : ℕ → List ℕ → List Word → List ℕ → List ℕ → Type 0
+Placed len bytes [] [] rest = bytes ≡ rest
+Placed len bytes (w ∷ words) (offset ∷ offsets) rest =
+    (after : List ℕ) × (word_at (behind_blanks bytes) ≡ Some (w, after)) × (offset + length (behind_blanks bytes) ≡ len)
+    × Placed len after words offsets rest
+Placed len bytes words offsets rest = ⊥
+
+-- the tokens are those before the rest
+pub record HasPlaced (bytes : List ℕ) (t : Tokens) (rest : List ℕ) : Type 0 where
+  pub words : List Word
+  pub is : noted words ≡ noted_in t
+  pub placed : Placed (length bytes) bytes words t.offsets.items rest
+
+-- why no more words are read
+abbrev pub StopsFor : Stop → List ℕ → Noted → Type 0
+StopsFor End rest found = (behind_blanks rest ≡ []) × (length found.names ≤ 16)
+StopsFor NoWord rest found = (behind_blanks rest ≢ []) × (word_at (behind_blanks rest) ≡ None)
+StopsFor Overfull rest found = 16 < length found.names
+
+-- the tokens of a text up to where they stop
+pub record IsTextOf (bytes : List ℕ) (t : Tokens) (stop : Stop) (end : ℕ) : Type 0 where
+  pub rest : List ℕ
+  pub has : HasPlaced bytes t rest
+  pub there : end + length (behind_blanks rest) ≡ length bytes
+  pub stops : StopsFor stop rest (noted_in t)
+
+-- the fault of a text that stops so at this byte, where all before may stand
+abbrev pub stop_fault : Stop → ℕ → FormulaFault
+stop_fault Overfull end = TooManyNames
+stop_fault End end = Syntax end
+stop_fault NoWord end = Syntax end
+
+-- the fault at the token that begins at an offset, or behind all tokens
+abbrev pub fault_or : Stop → ℕ → Option ℕ → FormulaFault
+fault_or stop end None = stop_fault stop end
+fault_or stop end (Some offset) = Syntax offset

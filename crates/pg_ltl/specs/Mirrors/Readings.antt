@@ -1,0 +1,43 @@
+-- Steps that may fail.
+use Rattle.std.specs.Prelude.{◌≡◌, ℕ, ◌+◌, ◌<◌, ◌≤◌, List, length, get_or, take, Option, Some, None, Result, Ok, Err}
+use Rattle.pg_ltl.specs.declared.token.Token.{Token}
+use Rattle.pg_ltl.specs.Formulas.{Formula}
+use Rattle.pg_ltl.specs.FormulaTexts.{AreTokensOf, BeginsOne, BeginsNone}
+use Rattle.pg_ltl.specs.Mirrors.Run.{Kept, turn_at, steps_at, starting}
+use Rattle.pg_ltl.specs.declared.reading.Misplaced.{Misplaced}
+use Rattle.pg_ltl.specs.declared.reading.Misplaced.TheVariants.{Memory, At}
+
+-- What a function returned, seen by view, is what reading gives, unless memory ran out.
+abbrev pub Fails : {Y : Type 0} → Misplaced → Option Y → Type 0
+Fails Memory read = Unit {0}
+Fails (At place) read = read ≡ None
+
+abbrev pub Gives : {X Y : Type 0} → (X → Y) → Result X Misplaced → Option Y → Type 0
+Gives view (Ok x) read = read ≡ Some (view x)
+Gives view (Err e) read = Fails e read
+
+-- memory ran out, or the tokens are those of no formula
+abbrev pub IsMisread : List Token → Misplaced → Type 0
+IsMisread ts Memory = Unit {0}
+IsMisread ts (At place) = (f : Formula) → AreTokensOf ts f → ⊥
+
+-- the tokens before this one are read, and it may not stand there, if there is one
+pub record IsStuck (ts : List Token) (place : ℕ) : Type 0 where
+  pub within : place ≤ length ts
+  pub kept : Kept
+  pub reached : steps_at starting (take place ts) ≡ Some kept
+  pub stuck : (d : Token) → place < length ts → turn_at kept (get_or ts place d) ≡ None
+
+abbrev pub StopsRun : List Token → Misplaced → Type 0
+StopsRun ts Memory = Unit {0}
+StopsRun ts (At place) = IsStuck ts place
+
+-- some formula's tokens begin with those before this one, and none with these and this one, if there is one
+pub record IsStopped (ts : List Token) (place : ℕ) : Type 0 where
+  pub within : place ≤ length ts
+  pub before : BeginsOne (take place ts)
+  pub stuck : place < length ts → BeginsNone (take (place + 1) ts)
+
+abbrev pub StopsTokens : List Token → Misplaced → Type 0
+StopsTokens ts Memory = Unit {0}
+StopsTokens ts (At place) = IsStopped ts place

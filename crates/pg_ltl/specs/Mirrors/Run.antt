@@ -1,0 +1,140 @@
+-- What the reader of tokens keeps: the parts so far, what waits for an operand, and the operand that stands there.
+use Rattle.std.specs.Prelude.{ℕ, Bool, true, false, nat_le, List, [], ◌∷◌, ◌++◌, length, reverse, Option, Some, None, if◌then◌else◌}
+use Rattle.pg_ltl.specs.declared.formula.Prefix.{Prefix}
+use Rattle.pg_ltl.specs.declared.formula.Infix.{Infix}
+use Rattle.pg_ltl.specs.declared.formula.Infix.TheVariants.{Also}
+use Rattle.pg_ltl.specs.declared.formula.FormulaNode.{FormulaNode}
+use Rattle.pg_ltl.specs.declared.formula.FormulaNode.TheVariants as parts
+use Rattle.pg_ltl.specs.declared.reading.Frame.{Frame}
+use Rattle.pg_ltl.specs.declared.reading.Frame.TheVariants.{Paren, Ahead, Left}
+use Rattle.pg_ltl.specs.declared.reading.Reading.{Reading}
+use Rattle.pg_ltl.specs.declared.token.Token.{Token}
+use Rattle.pg_ltl.specs.declared.token.Token.TheVariants as tokens
+use Rattle.pg_ltl.specs.FormulaTexts.{strength, left_rank}
+
+-- the innermost frame comes first
+pub record Kept : Type 0 where
+  pub nodes : List FormulaNode
+  pub frames : List Frame
+  pub operand : Option ℕ
+
+abbrev pub kept : List FormulaNode → List Frame → Option ℕ → Kept
+kept nodes frames operand = record { nodes = nodes; frames = reverse frames; operand = operand }
+
+abbrev pub view : Reading → Kept
+view r = kept r.nodes.items r.frames.items r.operand
+
+abbrev pub ahead_of : Frame → Option Prefix
+ahead_of (Ahead op) = Some op
+ahead_of frame = None
+
+abbrev pub taking : ℕ → Frame → Option (Infix × ℕ)
+taking bound (Left op other) = if nat_le bound (strength op) then Some (op, other) else None
+taking bound frame = None
+
+unfoldable pub completed_at : List FormulaNode → List Frame → ℕ → Kept
+completed_at nodes (Ahead op ∷ frames) place = completed_at (nodes ++ (parts.One op place ∷ [])) frames (length nodes)
+completed_at nodes frames place = record { nodes = nodes; frames = frames; operand = Some place }
+
+unfoldable pub reduced_at : ℕ → List FormulaNode → List Frame → ℕ → Kept
+reduced_at bound nodes (Left op other ∷ frames) place =
+    if nat_le bound (strength op) then reduced_at bound (nodes ++ (parts.Two op other place ∷ [])) frames (length nodes)
+    else record { nodes = nodes; frames = Left op other ∷ frames; operand = Some place }
+reduced_at bound nodes frames place = record { nodes = nodes; frames = frames; operand = Some place }
+
+-- an operand that is a part of its own
+unfoldable pub operand_at : Kept → FormulaNode → Kept
+operand_at r node = completed_at (r.nodes ++ (node ∷ [])) r.frames (length r.nodes)
+
+-- one frame more waits
+abbrev pub opened : Kept → Frame → Kept
+opened r frame = record { nodes = r.nodes; frames = frame ∷ r.frames; operand = None }
+
+unfoldable pub due_turn : Kept → Token → Option Kept
+due_turn r (tokens.Proposition p) = Some (operand_at r (parts.Proposition p))
+due_turn r (tokens.Constant value) = Some (operand_at r (parts.Constant value))
+due_turn r (tokens.Before op) = Some (opened r (Ahead op))
+due_turn r tokens.LeftParen = Some (opened r Paren)
+due_turn r t = None
+
+abbrev pub may_wait : List Frame → Infix → Bool
+may_wait (Paren ∷ frames) Also = false
+may_wait frames op = true
+
+abbrev pub between_with : Infix → List FormulaNode → List Frame → Option ℕ → Option Kept
+between_with op nodes frames None = None
+between_with op nodes frames (Some place) =
+    if may_wait frames op then Some (record { nodes = nodes; frames = Left op place ∷ frames; operand = None }) else None
+
+unfoldable pub between_at : Infix → Kept → Option Kept
+between_at op r = between_with op r.nodes r.frames r.operand
+
+abbrev pub closed_with : List FormulaNode → List Frame → Option ℕ → Option Kept
+closed_with nodes (Paren ∷ frames) (Some place) = Some (completed_at (nodes ++ (parts.Bracket place ∷ [])) frames (length nodes))
+closed_with nodes frames place = None
+
+unfoldable pub closed_at : Kept → Option Kept
+closed_at r = closed_with r.nodes r.frames r.operand
+
+unfoldable pub over_turn : Kept → ℕ → Token → Option Kept
+over_turn r place (tokens.Between op) = between_at op (reduced_at (left_rank op) r.nodes r.frames place)
+over_turn r place tokens.RightParen = closed_at (reduced_at 1 r.nodes r.frames place)
+over_turn r place t = None
+
+abbrev pub turn_with : Kept → Option ℕ → Token → Option Kept
+turn_with r None t = due_turn r t
+turn_with r (Some place) t = over_turn r place t
+
+unfoldable pub turn_at : Kept → Token → Option Kept
+turn_at r t = turn_with r r.operand t
+
+-- the parts and the place of the whole
+abbrev pub whole_with : List FormulaNode → List Frame → Option ℕ → Option (List FormulaNode × ℕ)
+whole_with nodes [] (Some place) = Some (nodes, place)
+whole_with nodes frames place = None
+
+unfoldable pub whole_at : Kept → Option (List FormulaNode × ℕ)
+whole_at r = whole_with r.nodes r.frames r.operand
+
+abbrev pub also_of : Frame → Option ℕ
+also_of (Left Also place) = Some place
+also_of frame = None
+
+-- the formula before the one `;` that waits there
+abbrev pub ended_place : List Frame → Option ℕ
+ended_place [] = None
+ended_place (frame ∷ []) = also_of frame
+ended_place (frame ∷ other ∷ frames) = None
+
+abbrev pub with_nodes : List FormulaNode → Option ℕ → Option (List FormulaNode × ℕ)
+with_nodes nodes None = None
+with_nodes nodes (Some place) = Some (nodes, place)
+
+abbrev pub finish_with : Kept → Option ℕ → Option (List FormulaNode × ℕ)
+finish_with r None = with_nodes r.nodes (ended_place r.frames)
+finish_with r (Some place) = whole_at (reduced_at 0 r.nodes r.frames place)
+
+unfoldable pub finish_at : Kept → Option (List FormulaNode × ℕ)
+finish_at r = finish_with r r.operand
+
+abbrev pub steps_if : (Kept → Option Kept) → Option Kept → Option Kept
+steps_if go None = None
+steps_if go (Some r) = go r
+
+unfoldable pub steps_at : Kept → List Token → Option Kept
+steps_at r [] = Some r
+steps_at r (t ∷ ts) = steps_if (λ s. steps_at s ts) (turn_at r t)
+
+abbrev pub run_if : (Kept → Option (List FormulaNode × ℕ)) → Option Kept → Option (List FormulaNode × ℕ)
+run_if go None = None
+run_if go (Some r) = go r
+
+unfoldable pub run_at : Kept → List Token → Option (List FormulaNode × ℕ)
+run_at r [] = finish_at r
+run_at r (t ∷ ts) = run_if (λ s. run_at s ts) (turn_at r t)
+
+abbrev pub starting : Kept
+starting = record { nodes = []; frames = []; operand = None }
+
+unfoldable pub parse_at : List Token → Option (List FormulaNode × ℕ)
+parse_at ts = run_at starting ts

@@ -1,0 +1,145 @@
+//! The words of a text as tokens, and its names.
+
+ghost use Rattle.std.specs.Prelude.{◌≡◌, ◌≤◌, ◌++◌, ◌∷◌, [], length, map, IfOk};
+ghost use Rattle.pg_ltl.specs.Texts.{note, number_of, with_name};
+ghost use Rattle.pg_ltl.specs.Words.{sign};
+ghost use Rattle.pg_ltl.specs.Mirrors.Scan.{as_word};
+ghost use Rattle.pg_ltl.specs.Mirrors.Notes.{IsTextOf, noted_in, stop_at};
+
+use crate::token::Token;
+use crate::word::{Word, behind_blanks, word_at};
+use std::alloc::{AllocError, Global};
+
+/// The names of a text in the order in which they first come, its tokens, and at which byte each token begins.
+#[derive(Drop)]
+pub struct Tokens {
+    pub names: Vec<Vec<u8>>,
+    pub tokens: Vec<Token>,
+    pub offsets: Vec<usize>,
+}
+
+/// Why no more words are read.
+#[derive(Clone, Copy)]
+pub enum Stop {
+    /// The text ends there.
+    End,
+    /// No word begins there.
+    NoWord,
+    /// There are more than 16 names.
+    Overfull,
+}
+
+/// The tokens of a text up to a byte, and why they stop there.
+#[derive(Drop)]
+pub struct Text {
+    pub tokens: Tokens,
+    pub stop: Stop,
+    pub end: usize,
+}
+
+/// The number of a name: its place among those that are known, or how many these are.
+fn number_of(names: &[Vec<u8>], name: &[u8]) -> usize
+    ensures value { result ≡ number_of name.now (map (λ v. v.items) names.now) }
+    ensures within { result ≤ length names.now }
+{
+    for (place, known) in names.iter().enumerate() {
+        if known.as_slice() == name {
+            return place;
+        }
+    }
+    names.len()
+}
+
+/// With one token more, which begins at this byte.
+fn pushed(mut tokens: Tokens, token: Token, offset: usize) -> Result<Tokens, AllocError>
+    ensures value { IfOk result (λ t. noted_in t ≡ note (noted_in tokens) (sign token)) }
+    ensures offsets { IfOk result (λ t. t.offsets.items ≡ tokens.offsets.items ++ (offset ∷ [])) }
+{
+    tokens.tokens.push(token)?;
+    tokens.offsets.push(offset)?;
+    Ok(tokens)
+}
+
+/// With this name, unless it is known.
+fn named(
+    alloc: Global,
+    mut names: Vec<Vec<u8>>,
+    name: &[u8],
+    number: usize,
+) -> Result<Vec<Vec<u8>>, AllocError>
+    requires { number ≡ number_of name.now (map (λ v. v.items) names.items) }
+    ensures { IfOk result (λ v. map (λ v. v.items) v.items ≡ with_name name.now (map (λ v. v.items) names.items)) }
+{
+    if number < names.len() {
+        return Ok(names);
+    }
+    names.push(Vec::from_slice(alloc, name)?)?;
+    Ok(names)
+}
+
+/// With one word more, which begins at this byte.
+fn noted(alloc: Global, tokens: Tokens, word: Word<'_>, offset: usize) -> Result<Tokens, AllocError>
+    requires { length tokens.names.items ≤ 16 }
+    ensures value { IfOk result (λ t. noted_in t ≡ note (noted_in tokens) (as_word word.entry)) }
+    ensures offsets { IfOk result (λ t. t.offsets.items ≡ tokens.offsets.items ++ (offset ∷ [])) }
+{
+    match word {
+        Word::Sign(token) => Ok(pushed(tokens, token, offset)?),
+        Word::Name(name) => {
+            let number = number_of(&tokens.names, name);
+            let names = named(alloc, tokens.names, name, number)?;
+            let tokens = Tokens {
+                names,
+                tokens: tokens.tokens,
+                offsets: tokens.offsets,
+            };
+            Ok(pushed(tokens, Token::Proposition(number as u32), offset)?)
+        }
+    }
+}
+
+/// Why no word is read in front of these bytes.
+fn stop_at(bytes: &[u8]) -> Stop
+    ensures { result ≡ stop_at bytes.now }
+{
+    match bytes {
+        [] => Stop::End,
+        _ => Stop::NoWord,
+    }
+}
+
+/// The words of a text as tokens, and its names: up to its end, or to a byte where no word begins, or to the seventeenth name.
+pub fn text_of(alloc: Global, bytes: &[u8]) -> Result<Text, AllocError>
+    ensures { IfOk result (λ text. IsTextOf bytes.now text.tokens text.stop text.end) }
+{
+    let mut tokens = Tokens {
+        names: Vec::new(alloc),
+        tokens: Vec::new(alloc),
+        offsets: Vec::new(alloc),
+    };
+    let mut rest = bytes;
+    'words: loop {
+        let solid = behind_blanks(rest);
+        let end = bytes.len().saturating_sub(solid.len());
+        if tokens.names.len() > 16 {
+            return Ok(Text {
+                tokens,
+                stop: Stop::Overfull,
+                end,
+            });
+        }
+        match word_at(solid) {
+            Some((word, after)) => {
+                tokens = noted(alloc, tokens, word, end)?;
+                rest = after;
+            }
+            None => {
+                return Ok(Text {
+                    tokens,
+                    stop: stop_at(solid),
+                    end,
+                });
+            }
+        }
+    }
+}

@@ -1,0 +1,135 @@
+//! The places of formulas and of their negations, in a list of parts.
+
+ghost use Rattle.std.specs.Prelude.{◌≡◌, ◌≤◌, length, IfOk, true, false};
+ghost use Rattle.pg_ltl.specs.NormalForms.{top, bottom, literal, both, either, next, until, release};
+ghost use Rattle.pg_ltl.specs.Mirrors.Nodes.{AreNormalNodes, normal_at, normals_of, normal_in, normal_reach};
+ghost use Rattle.pg_ltl.specs.Mirrors.Pairs.{AddsNode, AddsPair, IsWithin, negated, side};
+
+use crate::normal::NormalNode;
+use std::alloc::AllocError;
+
+/// The places of a formula and of its negation.
+#[derive(Clone, Copy)]
+pub struct Pair {
+    pub yes: usize,
+    pub no: usize,
+}
+
+/// The places of the negation.
+pub fn negation(pair: Pair) -> Pair
+    ensures { result ≡ negated pair }
+{
+    Pair {
+        yes: pair.no,
+        no: pair.yes,
+    }
+}
+
+/// The place of the formula, or of its negation.
+pub fn side(pair: Pair, positive: bool) -> usize
+    ensures { result ≡ side pair positive }
+{
+    if positive { pair.yes } else { pair.no }
+}
+
+/// Puts a part behind the others. The answer is its place.
+fn put(nodes: &mut Vec<NormalNode>, node: NormalNode) -> Result<usize, AllocError>
+    requires ordered { AreNormalNodes nodes.old.items }
+    requires reach { normal_reach node ≤ length nodes.old.items }
+    ensures { IfOk result (λ place. AddsNode nodes.old.items nodes.new.items place (normal_at (normals_of nodes.old.items) node)) }
+{
+    let place = nodes.len();
+    nodes.push(node)?;
+    Ok(place)
+}
+
+/// The constant that always holds.
+pub fn truth(nodes: &mut Vec<NormalNode>) -> Result<Pair, AllocError>
+    requires ordered { AreNormalNodes nodes.old.items }
+    ensures { IfOk result (λ pair. AddsPair nodes.old.items nodes.new.items pair top bottom) }
+{
+    let yes = put(nodes, NormalNode::Top)?;
+    let no = put(nodes, NormalNode::Bottom)?;
+    Ok(Pair { yes, no })
+}
+
+/// A proposition.
+pub fn proposition(nodes: &mut Vec<NormalNode>, p: u32) -> Result<Pair, AllocError>
+    requires ordered { AreNormalNodes nodes.old.items }
+    ensures { IfOk result (λ pair. AddsPair nodes.old.items nodes.new.items pair (literal p true) (literal p false)) }
+{
+    let yes = put(nodes, NormalNode::Literal(p, true))?;
+    let no = put(nodes, NormalNode::Literal(p, false))?;
+    Ok(Pair { yes, no })
+}
+
+/// `X f`.
+pub fn at_next(nodes: &mut Vec<NormalNode>, f: Pair) -> Result<Pair, AllocError>
+    requires ordered { AreNormalNodes nodes.old.items }
+    requires f { IsWithin nodes.old.items f }
+    ensures { IfOk result (λ pair. AddsPair nodes.old.items nodes.new.items pair
+        (next (normal_in nodes.old.items f.yes)) (next (normal_in nodes.old.items f.no))) }
+{
+    let yes = put(nodes, NormalNode::Next(f.yes))?;
+    let no = put(nodes, NormalNode::Next(f.no))?;
+    Ok(Pair { yes, no })
+}
+
+/// `f | g`.
+pub fn disjunction(nodes: &mut Vec<NormalNode>, f: Pair, g: Pair) -> Result<Pair, AllocError>
+    requires ordered { AreNormalNodes nodes.old.items }
+    requires f { IsWithin nodes.old.items f }
+    requires g { IsWithin nodes.old.items g }
+    ensures { IfOk result (λ pair. AddsPair nodes.old.items nodes.new.items pair
+        (either (normal_in nodes.old.items f.yes) (normal_in nodes.old.items g.yes))
+        (both (normal_in nodes.old.items f.no) (normal_in nodes.old.items g.no))) }
+{
+    let yes = put(nodes, NormalNode::Either(f.yes, g.yes))?;
+    let no = put(nodes, NormalNode::Both(f.no, g.no))?;
+    Ok(Pair { yes, no })
+}
+
+/// `f U g`.
+pub fn until(nodes: &mut Vec<NormalNode>, f: Pair, g: Pair) -> Result<Pair, AllocError>
+    requires ordered { AreNormalNodes nodes.old.items }
+    requires f { IsWithin nodes.old.items f }
+    requires g { IsWithin nodes.old.items g }
+    ensures { IfOk result (λ pair. AddsPair nodes.old.items nodes.new.items pair
+        (until (normal_in nodes.old.items f.yes) (normal_in nodes.old.items g.yes))
+        (release (normal_in nodes.old.items f.no) (normal_in nodes.old.items g.no))) }
+{
+    let yes = put(nodes, NormalNode::Until(f.yes, g.yes))?;
+    let no = put(nodes, NormalNode::Release(f.no, g.no))?;
+    Ok(Pair { yes, no })
+}
+
+/// Where both hold or neither does.
+fn agreement(nodes: &mut Vec<NormalNode>, f: Pair, g: Pair) -> Result<usize, AllocError>
+    requires ordered { AreNormalNodes nodes.old.items }
+    requires f { IsWithin nodes.old.items f }
+    requires g { IsWithin nodes.old.items g }
+    ensures { IfOk result (λ place. AddsNode nodes.old.items nodes.new.items place
+        (either (both (normal_in nodes.old.items f.yes) (normal_in nodes.old.items g.yes))
+        (both (normal_in nodes.old.items f.no) (normal_in nodes.old.items g.no)))) }
+{
+    let yes = put(nodes, NormalNode::Both(f.yes, g.yes))?;
+    let no = put(nodes, NormalNode::Both(f.no, g.no))?;
+    let place = put(nodes, NormalNode::Either(yes, no))?;
+    Ok(place)
+}
+
+/// `f <-> g`.
+pub fn equivalence(nodes: &mut Vec<NormalNode>, f: Pair, g: Pair) -> Result<Pair, AllocError>
+    requires ordered { AreNormalNodes nodes.old.items }
+    requires f { IsWithin nodes.old.items f }
+    requires g { IsWithin nodes.old.items g }
+    ensures { IfOk result (λ pair. AddsPair nodes.old.items nodes.new.items pair
+        (either (both (normal_in nodes.old.items f.yes) (normal_in nodes.old.items g.yes))
+        (both (normal_in nodes.old.items f.no) (normal_in nodes.old.items g.no)))
+        (either (both (normal_in nodes.old.items f.yes) (normal_in nodes.old.items g.no))
+        (both (normal_in nodes.old.items f.no) (normal_in nodes.old.items g.yes)))) }
+{
+    let yes = agreement(nodes, f, g)?;
+    let no = agreement(nodes, f, negation(g))?;
+    Ok(Pair { yes, no })
+}

@@ -1,0 +1,83 @@
+//! Formulas from text.
+
+ghost use Rattle.std.specs.Prelude.{◌≡◌, ◌≤◌, length, map, slice_get, IfOk, IfErr};
+ghost use Rattle.std.specs.List.{AllByRecursion, count_by};
+ghost use Rattle.pg_hoa_automaton.specs.Automata.{IsPropositionName};
+ghost use Rattle.pg_ltl.specs.Formulas.{SpeaksOf};
+ghost use Rattle.pg_ltl.specs.Texts.{is_operator, IsRefused, Spelt};
+ghost use Rattle.pg_ltl.specs.Mirrors.Views.{written};
+ghost use Rattle.pg_ltl.specs.Mirrors.Notes.{fault_or, stop_fault};
+
+use crate::fault::FormulaFault;
+use crate::formula::Formula;
+use crate::noting::{Stop, Text, text_of};
+use crate::reading::{Misplaced, formula_of};
+use crate::token::Token;
+use std::alloc::Global;
+
+fn is_operator(token: Token) -> bool
+    ensures { result ≡ is_operator token }
+{
+    matches!(token, Token::Before(_) | Token::Between(_))
+}
+
+/// How many operators there are.
+fn operators(tokens: &[Token]) -> usize
+    ensures { result ≡ count_by is_operator tokens.now }
+{
+    tokens.iter().filter(|token| is_operator(**token)).count()
+}
+
+/// The fault of a text that stops so at this byte, where all words before may stand.
+fn stop_fault(stop: Stop, end: usize) -> FormulaFault
+    ensures { result ≡ stop_fault stop end }
+{
+    match stop {
+        Stop::Overfull => FormulaFault::TooManyNames,
+        Stop::End => FormulaFault::Syntax(end),
+        Stop::NoWord => FormulaFault::Syntax(end),
+    }
+}
+
+/// The fault of a text in which the token of this number, counted from 0, may not stand, or which may not end behind its tokens.
+fn fault_at(text: &Text, place: usize) -> FormulaFault
+    ensures { result ≡ fault_or text.now.stop text.now.end (slice_get text.now.tokens.offsets.items place) }
+{
+    match text.tokens.offsets.get(place) {
+        Some(offset) => FormulaFault::Syntax(*offset),
+        None => stop_fault(text.stop, text.end),
+    }
+}
+
+/// Reads a formula in Spot's syntax, and the names of its propositions in the order in which they first come: `! & | -> <-> xor`,
+/// `X F G U R W M`, `true`, `false`, brackets, and names, bare or in double quotes. `~`, `&&`, `||`, `=>`, `<=>`, `^`, `[]`, `<>`, `V`,
+/// `1` and `0` are other spellings. `;` stands between formulas all of which hold, and perhaps behind the last one. There may be at most
+/// 16 names, and 4,096 operators, of which `;` is one.
+///
+/// The text is read from left to right. Syntax names the first byte of the first word that may not stand where it stands, or where no word
+/// begins, or the text's length where more has to come. TooManyNames comes at the seventeenth name, and TooManyOperators at the end.
+pub fn read_formula(alloc: Global, bytes: &[u8]) -> Result<(Vec<Vec<u8>>, Formula), FormulaFault>
+    ensures found { IfOk result (λ x. Spelt bytes.now (map (λ v. v.items) x.0.items) (written x.1)) }
+    // Names as automata have them, of which alone the formula speaks.
+    ensures names { IfOk result (λ x. AllByRecursion IsPropositionName (map (λ v. v.items) x.0.items)) }
+    ensures speaks { IfOk result (λ x. SpeaksOf (length x.0.items) (written x.1)) }
+    ensures few { IfOk result (λ x. length x.0.items ≤ 16) }
+    ensures refused { IfErr result (IsRefused bytes.now) }
+{
+    let text = text_of(alloc, bytes)?;
+    match formula_of(alloc, &text.tokens.tokens) {
+        Err(Misplaced::Memory) => Err(FormulaFault::OutOfMemory),
+        Err(Misplaced::At(place)) => Err(fault_at(&text, place)),
+        Ok(formula) => match text.stop {
+            Stop::End => {
+                if operators(&text.tokens.tokens) > 4096 {
+                    Err(FormulaFault::TooManyOperators)
+                } else {
+                    Ok((text.tokens.names, formula))
+                }
+            }
+            Stop::NoWord => Err(FormulaFault::Syntax(text.end)),
+            Stop::Overfull => Err(FormulaFault::TooManyNames),
+        },
+    }
+}

@@ -1,0 +1,355 @@
+//! Tokens to the parts of a formula.
+
+ghost use Rattle.std.specs.Prelude.{◌≡◌, ◌≤◌, ◌<◌, ◌∷◌, [], length, reverse, Some, IfOk, IfErr, MatchOption, option_map};
+ghost use Rattle.pg_ltl.specs.FormulaTexts.{AreTokensOf, left_rank, strength};
+ghost use Rattle.pg_ltl.specs.Mirrors.Views.{written};
+ghost use Rattle.pg_ltl.specs.Mirrors.Readings.{Gives, IsMisread, StopsRun, StopsTokens};
+ghost use Rattle.pg_ltl.specs.Mirrors.Run.{also_of, ended_place, ahead_of, between_at, closed_at, completed_at, due_turn, finish_at, kept};
+ghost use Rattle.pg_ltl.specs.Mirrors.Run.{may_wait, operand_at, opened};
+ghost use Rattle.pg_ltl.specs.Mirrors.Run.{over_turn, parse_at, reduced_at, taking, turn_at, view, whole_at};
+
+use crate::formula::{Formula, FormulaNode, Infix, Prefix};
+use crate::token::Token;
+use std::alloc::{AllocError, Global};
+
+/// Why no formula is read.
+#[derive(Clone, Copy)]
+pub enum Misplaced {
+    /// A growth was refused.
+    Memory,
+    /// The token of this number, counted from 0, may not stand there; or the tokens end there, where they may not.
+    At(usize),
+}
+
+impl From<AllocError> for Misplaced {
+    ghost use Rattle.pg_ltl.specs.declared.reading.Misplaced.TheVariants as faults;
+
+    ghost from_gives = { λ _ e. e ≡ faults.Memory };
+
+    fn from(_e: AllocError) -> Misplaced {
+        Misplaced::Memory
+    }
+}
+
+/// What waits for an operand.
+#[derive(Clone, Copy)]
+pub enum Frame {
+    /// A bracket that is open.
+    Paren,
+    /// An operator before its operand.
+    Ahead(Prefix),
+    /// An operator behind its left operand, which is the part at this place.
+    Left(Infix, usize),
+}
+
+/// A formula that is being read: its parts so far, what waits for an operand, the innermost last, and the place of the operand
+/// that stands there, unless one is due.
+#[derive(Drop)]
+pub struct Reading {
+    pub nodes: Vec<FormulaNode>,
+    pub frames: Vec<Frame>,
+    pub operand: Option<usize>,
+}
+
+/// How strongly an operator binds.
+fn strength(op: Infix) -> u32
+    ensures { result ≡ strength op }
+{
+    match op {
+        Infix::Also => 0,
+        Infix::Implies | Infix::Equivalent => 1,
+        Infix::Or => 2,
+        Infix::Exclusive => 4,
+        Infix::And => 6,
+        Infix::Until | Infix::Release | Infix::Weak | Infix::Strong => 7,
+    }
+}
+
+/// How strongly the left operand of an operator has to bind at least.
+fn left_rank(op: Infix) -> u32
+    ensures { result ≡ left_rank op }
+{
+    let strength = strength(op);
+    strength + strength % 2
+}
+
+/// Takes the innermost frame away.
+fn pop(frames: &mut Vec<Frame>) -> Option<Frame>
+    ensures { MatchOption result ((reverse frames.old.items ≡ []) × (reverse frames.new.items ≡ []))
+        (λ frame. reverse frames.old.items ≡ frame ∷ reverse frames.new.items) }
+{
+    frames.pop()
+}
+
+/// The reading in which the part at this place stands.
+fn over(nodes: Vec<FormulaNode>, frames: Vec<Frame>, place: usize) -> Reading
+    ensures { view result ≡ kept nodes.items frames.items (Some place) }
+{
+    Reading {
+        nodes,
+        frames,
+        operand: Some(place),
+    }
+}
+
+/// The operator that waits there before its operand.
+fn ahead(frame: Frame) -> Option<Prefix>
+    ensures { result ≡ ahead_of frame }
+{
+    match frame {
+        Frame::Ahead(op) => Some(op),
+        _ => None,
+    }
+}
+
+/// The operator that waits there with its left operand, if it binds at least so strongly.
+fn taking(bound: u32, frame: Frame) -> Option<(Infix, usize)>
+    ensures { result ≡ taking bound frame }
+{
+    match frame {
+        Frame::Left(op, other) => if bound <= strength(op) {
+            Some((op, other))
+        } else {
+            None
+        },
+        _ => None,
+    }
+}
+
+/// The reading behind an operand, which is the part at this place: the operators before it take it.
+fn completed(
+    mut nodes: Vec<FormulaNode>,
+    mut frames: Vec<Frame>,
+    operand: usize,
+) -> Result<Reading, AllocError>
+    ensures { IfOk result (λ r. view r ≡ completed_at nodes.items (reverse frames.items) operand) }
+{
+    let mut place = operand;
+    'frames: loop {
+        match pop(&mut frames) {
+            None => return Ok(over(nodes, frames, place)),
+            Some(frame) => match ahead(frame) {
+                Some(op) => {
+                    let next = nodes.len();
+                    nodes.push(FormulaNode::One(op, place))?;
+                    place = next;
+                }
+                None => {
+                    frames.push(frame)?;
+                    return Ok(over(nodes, frames, place));
+                }
+            },
+        }
+    }
+}
+
+/// The reading in which the operators that bind at least so strongly have taken their right operands, the innermost of which is the
+/// part at this place.
+fn reduced(
+    bound: u32,
+    mut nodes: Vec<FormulaNode>,
+    mut frames: Vec<Frame>,
+    operand: usize,
+) -> Result<Reading, AllocError>
+    ensures { IfOk result (λ r. view r ≡ reduced_at bound nodes.items (reverse frames.items) operand) }
+{
+    let mut place = operand;
+    'frames: loop {
+        match pop(&mut frames) {
+            None => return Ok(over(nodes, frames, place)),
+            Some(frame) => match taking(bound, frame) {
+                Some((op, other)) => {
+                    let next = nodes.len();
+                    nodes.push(FormulaNode::Two(op, other, place))?;
+                    place = next;
+                }
+                None => {
+                    frames.push(frame)?;
+                    return Ok(over(nodes, frames, place));
+                }
+            },
+        }
+    }
+}
+
+/// The reading behind an operand that is a part of its own.
+#[tactic(auto, unfolding(crate::specs::Mirrors::Run::operand_at))]
+fn operand(mut reading: Reading, node: FormulaNode) -> Result<Reading, AllocError>
+    ensures { IfOk result (λ r. view r ≡ operand_at (view reading) node) }
+{
+    let place = reading.nodes.len();
+    reading.nodes.push(node)?;
+    completed(reading.nodes, reading.frames, place)
+}
+
+/// The reading in which one frame more waits.
+fn opened(mut reading: Reading, frame: Frame) -> Result<Reading, AllocError>
+    ensures { IfOk result (λ r. view r ≡ opened (view reading) frame) }
+{
+    reading.frames.push(frame)?;
+    Ok(Reading {
+        nodes: reading.nodes,
+        frames: reading.frames,
+        operand: None,
+    })
+}
+
+/// The reading behind a token where an operand is due.
+#[tactic(auto, unfolding(crate::specs::Mirrors::Run::due_turn))]
+fn due_turn(reading: Reading, token: Token) -> Result<Option<Reading>, AllocError>
+    ensures { IfOk result (λ r. option_map view r ≡ due_turn (view reading) token) }
+{
+    match token {
+        Token::Proposition(p) => Ok(Some(operand(reading, FormulaNode::Proposition(p))?)),
+        Token::Constant(value) => Ok(Some(operand(reading, FormulaNode::Constant(value))?)),
+        Token::Before(op) => Ok(Some(opened(reading, Frame::Ahead(op))?)),
+        Token::LeftParen => Ok(Some(opened(reading, Frame::Paren)?)),
+        _ => Ok(None),
+    }
+}
+
+/// Whether an operator may wait behind these frames: a `;` in brackets may not.
+fn may_wait(frames: &[Frame], op: Infix) -> bool
+    ensures { result ≡ may_wait (reverse frames.now) op }
+{
+    match (frames.last(), op) {
+        (Some(Frame::Paren), Infix::Also) => false,
+        _ => true,
+    }
+}
+
+/// The reading behind an operator whose left operand stands there.
+#[tactic(auto, unfolding(crate::specs::Mirrors::Run::between_at))]
+fn between(op: Infix, reading: Reading) -> Result<Option<Reading>, AllocError>
+    ensures { IfOk result (λ r. option_map view r ≡ between_at op (view reading)) }
+{
+    match reading.operand {
+        Some(place) if may_wait(&reading.frames, op) => Ok(Some(opened(
+            reading,
+            Frame::Left(op, place),
+        )?)),
+        _ => Ok(None),
+    }
+}
+
+/// The reading behind a bracket that closes.
+#[tactic(auto, unfolding(crate::specs::Mirrors::Run::closed_at))]
+fn closed(reading: Reading) -> Result<Option<Reading>, AllocError>
+    ensures { IfOk result (λ r. option_map view r ≡ closed_at (view reading)) }
+{
+    let mut nodes = reading.nodes;
+    let mut frames = reading.frames;
+    match (pop(&mut frames), reading.operand) {
+        (Some(Frame::Paren), Some(place)) => {
+            let next = nodes.len();
+            nodes.push(FormulaNode::Bracket(place))?;
+            Ok(Some(completed(nodes, frames, next)?))
+        }
+        _ => Ok(None),
+    }
+}
+
+/// The reading behind a token where the part at this place stands.
+#[tactic(auto, unfolding(crate::specs::Mirrors::Run::over_turn))]
+fn over_turn(reading: Reading, place: usize, token: Token) -> Result<Option<Reading>, AllocError>
+    ensures { IfOk result (λ r. option_map view r ≡ over_turn (view reading) place token) }
+{
+    match token {
+        Token::Between(op) => between(
+            op,
+            reduced(left_rank(op), reading.nodes, reading.frames, place)?,
+        ),
+        Token::RightParen => closed(reduced(1, reading.nodes, reading.frames, place)?),
+        _ => Ok(None),
+    }
+}
+
+/// The reading behind one token more, if it may stand there.
+#[tactic(auto, unfolding(crate::specs::Mirrors::Run::turn_at))]
+fn turn(reading: Reading, token: Token) -> Result<Option<Reading>, AllocError>
+    ensures { IfOk result (λ r. option_map view r ≡ turn_at (view reading) token) }
+{
+    match reading.operand {
+        None => due_turn(reading, token),
+        Some(place) => over_turn(reading, place, token),
+    }
+}
+
+/// The parts of a formula that has ended, and the place of the whole, unless something waits for an operand.
+#[tactic(auto, unfolding(crate::specs::Mirrors::Run::whole_at))]
+fn whole(reading: Reading) -> Option<(Vec<FormulaNode>, usize)>
+    ensures { option_map (λ x. (x.0.items, x.1)) result ≡ whole_at (view reading) }
+{
+    let mut frames = reading.frames;
+    match (pop(&mut frames), reading.operand) {
+        (None, Some(place)) => Some((reading.nodes, place)),
+        _ => None,
+    }
+}
+
+/// The operand before a `;`.
+fn also(frame: Frame) -> Option<usize>
+    ensures { result ≡ also_of frame }
+{
+    match frame {
+        Frame::Left(Infix::Also, place) => Some(place),
+        _ => None,
+    }
+}
+
+/// The place of the formula before the one `;` that waits there.
+fn ended(mut frames: Vec<Frame>) -> Option<usize>
+    ensures { result ≡ ended_place (reverse frames.items) }
+{
+    let frame = pop(&mut frames)?;
+    match pop(&mut frames) {
+        None => also(frame),
+        Some(_) => None,
+    }
+}
+
+/// The parts of the formula that ends here, and the place of the whole, if one ends.
+#[tactic(auto, unfolding(crate::specs::Mirrors::Run::finish_at))]
+fn finished(reading: Reading) -> Result<Option<(Vec<FormulaNode>, usize)>, AllocError>
+    ensures { IfOk result (λ r. option_map (λ x. (x.0.items, x.1)) r ≡ finish_at (view reading)) }
+{
+    match reading.operand {
+        None => match ended(reading.frames) {
+            Some(place) => Ok(Some((reading.nodes, place))),
+            None => Ok(None),
+        },
+        Some(place) => Ok(whole(reduced(0, reading.nodes, reading.frames, place)?)),
+    }
+}
+
+/// The parts of the formula that the tokens spell, perhaps with a `;` behind it, and the place of the whole.
+fn parsed(alloc: Global, tokens: &[Token]) -> Result<(Vec<FormulaNode>, usize), Misplaced>
+    ensures value { Gives (λ x. (x.0.items, x.1)) result (parse_at tokens.now) }
+    ensures stops { IfErr result (StopsRun tokens.now) }
+{
+    let mut reading = Reading {
+        nodes: Vec::new(alloc),
+        frames: Vec::new(alloc),
+        operand: None,
+    };
+    for (place, token) in tokens.iter().enumerate() {
+        match turn(reading, *token)? {
+            Some(next) => reading = next,
+            None => return Err(Misplaced::At(place)),
+        }
+    }
+    match finished(reading)? {
+        Some(found) => Ok(found),
+        None => Err(Misplaced::At(tokens.len())),
+    }
+}
+
+/// The formula that the tokens spell, perhaps with a `;` behind it.
+pub fn formula_of(alloc: Global, tokens: &[Token]) -> Result<Formula, Misplaced>
+    ensures found { IfOk result (λ f. AreTokensOf tokens.now (written f)) }
+    ensures refused { IfErr result (IsMisread tokens.now) }
+    ensures stops { IfErr result (StopsTokens tokens.now) }
+{
+    let (nodes, root) = parsed(alloc, tokens)?;
+    Ok(Formula { nodes, root })
+}

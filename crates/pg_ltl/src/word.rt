@@ -1,0 +1,268 @@
+//! The words of a text, one at a time.
+
+ghost use Rattle.std.specs.Prelude.{◌≡◌, ◌∷◌, option_map};
+ghost use Rattle.std.specs.List.{prefix_len};
+ghost use Rattle.pg_list_lemmas.specs.Bytes.{is_digit};
+ghost use Rattle.pg_ltl.specs.Words.{arrow_at, bare_at, behind, behind_blanks, is_inner, is_letter, is_quoted, is_space, is_start, lettered};
+ghost use Rattle.pg_ltl.specs.Words.{makes_name, operator_of, quoted_at, reserved, sign_at, single, without, word_at};
+ghost use Rattle.pg_ltl.specs.Mirrors.Scan.{as_word};
+
+use crate::formula::{Infix, Prefix};
+use crate::token::Token;
+
+/// A word of a text, which borrows it: a name, or a token that is none.
+#[derive(Clone, Copy)]
+pub enum Word<'a> {
+    Name(&'a [u8]),
+    Sign(Token),
+}
+
+/// White space: tab, line feed, carriage return or space.
+fn is_space(byte: u8) -> bool
+    ensures { result ≡ is_space byte }
+{
+    matches!(byte, b'\t' | b'\n' | b'\r' | b' ')
+}
+
+fn is_digit(byte: u8) -> bool
+    ensures { result ≡ is_digit byte }
+{
+    byte.is_ascii_digit()
+}
+
+fn is_letter(byte: u8) -> bool
+    ensures { result ≡ is_letter byte }
+{
+    byte.is_ascii_alphabetic()
+}
+
+/// A byte with which a bare name begins.
+fn is_start(byte: u8) -> bool
+    ensures { result ≡ is_start byte }
+{
+    is_letter(byte) || byte == b'_' || byte == b'.'
+}
+
+/// A byte that a bare name may have behind its first.
+fn is_inner(byte: u8) -> bool
+    ensures { result ≡ is_inner byte }
+{
+    is_start(byte) || is_digit(byte)
+}
+
+/// A byte of a name in quotes.
+fn is_quoted(byte: u8) -> bool
+    ensures { result ≡ is_quoted byte }
+{
+    byte >= 32 && byte != 127 && byte != b'"'
+}
+
+/// How many bytes of white space stand in front.
+fn blanks(bytes: &[u8]) -> usize
+    ensures { result ≡ prefix_len is_space bytes.now }
+{
+    bytes.iter().take_while(|byte| is_space(**byte)).count()
+}
+
+/// How many bytes of a bare name stand in front.
+fn inner(bytes: &[u8]) -> usize
+    ensures { result ≡ prefix_len is_inner bytes.now }
+{
+    bytes.iter().take_while(|byte| is_inner(**byte)).count()
+}
+
+/// How many bytes of a name in quotes stand in front.
+fn quoted_inner(bytes: &[u8]) -> usize
+    ensures { result ≡ prefix_len is_quoted bytes.now }
+{
+    bytes.iter().take_while(|byte| is_quoted(**byte)).count()
+}
+
+/// What follows behind white space.
+#[tactic(auto, using(pg_list_lemmas::proofs::Runs::run_within), unfolding(crate::specs::Words::behind_blanks))]
+pub fn behind_blanks(bytes: &[u8]) -> &[u8]
+    ensures { result.now ≡ behind_blanks bytes.now }
+{
+    let (_, rest) = bytes.split_at(blanks(bytes));
+    rest
+}
+
+/// What a bare word means that is no name.
+#[tactic(auto, unfolding(crate::specs::Words::reserved))]
+fn reserved(word: &[u8]) -> Option<Token>
+    ensures { result ≡ reserved word.now }
+{
+    if word == b"true".as_slice() {
+        Some(Token::Constant(true))
+    } else if word == b"false".as_slice() {
+        Some(Token::Constant(false))
+    } else if word == b"xor".as_slice() {
+        Some(Token::Between(Infix::Exclusive))
+    } else if word == b"U".as_slice() {
+        Some(Token::Between(Infix::Until))
+    } else if word == b"R".as_slice() {
+        Some(Token::Between(Infix::Release))
+    } else if word == b"V".as_slice() {
+        Some(Token::Between(Infix::Release))
+    } else if word == b"W".as_slice() {
+        Some(Token::Between(Infix::Weak))
+    } else if word == b"M".as_slice() {
+        Some(Token::Between(Infix::Strong))
+    } else {
+        None
+    }
+}
+
+/// The bare word in front, and what follows.
+#[tactic(auto, using(pg_list_lemmas::proofs::Runs::run_within), unfolding(crate::specs::Words::bare_at))]
+fn bare(bytes: &[u8]) -> (Word<'_>, &[u8])
+    ensures { (as_word result.0, result.1.now) ≡ bare_at bytes.now }
+{
+    let (word, rest) = bytes.split_at(inner(bytes));
+    match reserved(word) {
+        Some(token) => (Word::Sign(token), rest),
+        None => (Word::Name(word), rest),
+    }
+}
+
+/// The operator that is this letter.
+#[tactic(auto, unfolding(crate::specs::Words::operator_of))]
+fn operator_of(byte: u8) -> Option<Prefix>
+    ensures { result ≡ operator_of byte }
+{
+    match byte {
+        b'F' => Some(Prefix::Finally),
+        b'G' => Some(Prefix::Globally),
+        b'X' => Some(Prefix::Next),
+        _ => None,
+    }
+}
+
+/// Whether these bytes make a name of F, G or X.
+#[tactic(auto, unfolding(crate::specs::Words::makes_name))]
+fn makes_name(bytes: &[u8]) -> bool
+    ensures { result ≡ makes_name bytes.now }
+{
+    match bytes {
+        [byte, ..] => is_digit(*byte) || *byte == b'_',
+        [] => false,
+    }
+}
+
+/// The word that begins with this letter, `_` or `.`, and what follows.
+fn lettered<'a>(byte: u8, rest: &'a [u8], bytes: &'a [u8]) -> (Word<'a>, &'a [u8])
+    requires { bytes.now ≡ byte ∷ rest.now }
+    ensures { (as_word result.0, result.1.now) ≡ lettered (operator_of byte) byte rest.now }
+{
+    match operator_of(byte) {
+        Some(op) => {
+            if makes_name(rest) {
+                bare(bytes)
+            } else {
+                (Word::Sign(Token::Before(op)), rest)
+            }
+        }
+        None => bare(bytes),
+    }
+}
+
+/// The name in quotes whose first quote stands in front of these bytes, and what follows.
+#[tactic(auto, using(pg_list_lemmas::proofs::Runs::run_within), unfolding(crate::specs::Words::quoted_at))]
+fn quoted(bytes: &[u8]) -> Option<(Word<'_>, &[u8])>
+    ensures { option_map (λ x. (as_word x.0, x.1.now)) result ≡ quoted_at bytes.now }
+{
+    let len = quoted_inner(bytes);
+    if len == 0 {
+        return None;
+    }
+    let (name, rest) = bytes.split_at(len);
+    match rest {
+        [b'"', after @ ..] => Some((Word::Name(name), after)),
+        _ => None,
+    }
+}
+
+/// What follows where this byte may stand once more.
+#[tactic(auto, unfolding(crate::specs::Words::without))]
+fn without(byte: u8, bytes: &[u8]) -> &[u8]
+    ensures { result.now ≡ without byte bytes.now }
+{
+    match bytes {
+        [first, rest @ ..] if *first == byte => rest,
+        _ => bytes,
+    }
+}
+
+/// The token and what follows, where this byte has to stand.
+#[tactic(auto, unfolding(crate::specs::Words::behind))]
+fn behind(byte: u8, token: Token, bytes: &[u8]) -> Option<(Token, &[u8])>
+    ensures { option_map (λ x. (x.0, x.1.now)) result ≡ behind byte token bytes.now }
+{
+    match bytes {
+        [first, rest @ ..] if *first == byte => Some((token, rest)),
+        _ => None,
+    }
+}
+
+/// The token that begins with the `<` in front of these bytes, and what follows.
+#[tactic(auto, unfolding(crate::specs::Words::arrow_at))]
+fn arrow(bytes: &[u8]) -> Option<(Token, &[u8])>
+    ensures { option_map (λ x. (x.0, x.1.now)) result ≡ arrow_at bytes.now }
+{
+    match bytes {
+        [b'>', rest @ ..] => Some((Token::Before(Prefix::Finally), rest)),
+        [b'-' | b'=', rest @ ..] => behind(b'>', Token::Between(Infix::Equivalent), rest),
+        _ => None,
+    }
+}
+
+/// The token that is this byte.
+#[tactic(auto, unfolding(crate::specs::Words::single))]
+fn single(byte: u8) -> Option<Token>
+    ensures { result ≡ single byte }
+{
+    match byte {
+        b'!' | b'~' => Some(Token::Before(Prefix::Not)),
+        b'(' => Some(Token::LeftParen),
+        b')' => Some(Token::RightParen),
+        b'0' => Some(Token::Constant(false)),
+        b'1' => Some(Token::Constant(true)),
+        b';' => Some(Token::Between(Infix::Also)),
+        b'^' => Some(Token::Between(Infix::Exclusive)),
+        _ => None,
+    }
+}
+
+/// The token that begins with this byte, which is no letter and stands in front of `rest`, and what follows.
+#[tactic(auto, unfolding(crate::specs::Words::sign_at))]
+fn sign(byte: u8, rest: &[u8]) -> Option<(Token, &[u8])>
+    ensures { option_map (λ x. (x.0, x.1.now)) result ≡ sign_at byte rest.now }
+{
+    match byte {
+        b'&' => Some((Token::Between(Infix::And), without(b'&', rest))),
+        b'|' => Some((Token::Between(Infix::Or), without(b'|', rest))),
+        b'-' | b'=' => behind(b'>', Token::Between(Infix::Implies), rest),
+        b'[' => behind(b']', Token::Before(Prefix::Globally), rest),
+        b'<' => arrow(rest),
+        _ => match single(byte) {
+            Some(token) => Some((token, rest)),
+            None => None,
+        },
+    }
+}
+
+/// The word in front, where no blank stands, and what follows it.
+#[tactic(auto, unfolding(crate::specs::Words::word_at))]
+pub fn word_at(bytes: &[u8]) -> Option<(Word<'_>, &[u8])>
+    ensures { option_map (λ x. (as_word x.0, x.1.now)) result ≡ word_at bytes.now }
+{
+    match bytes {
+        [] => None,
+        [byte, rest @ ..] if is_start(*byte) => Some(lettered(*byte, rest, bytes)),
+        [b'"', rest @ ..] => quoted(rest),
+        [byte, rest @ ..] => match sign(*byte, rest) {
+            Some((token, after)) => Some((Word::Sign(token), after)),
+            None => None,
+        },
+    }
+}
