@@ -1,0 +1,4 @@
+mod Common
+pub mod Alike
+pub mod Tabled
+pub mod Whole

@@ -1,0 +1,41 @@
+//! Why there is no verdict.
+
+use pg_means_search::SearchFault;
+use std::alloc::{AllocError, AllocFailed};
+use thiserror::Error;
+
+/// Why there is no verdict.
+#[derive(Clone, Copy, Debug, PartialEq, Eq, Error)]
+pub enum MeansFault {
+    /// A growth was refused.
+    #[error("out of memory")]
+    OutOfMemory,
+    /// The automaton over all propositions, or its product with the formula, has more than 16,777,216 edges, or the formula's parts
+    /// times letters are more than 4,194,304.
+    #[error("product of automaton and formula too large")]
+    TooLarge,
+    /// What was found shows neither. No input is known for which this happens.
+    #[error("undecided")]
+    Undecided,
+}
+
+impl From<AllocError> for MeansFault {
+    fn from(_e: AllocError) -> MeansFault {
+        MeansFault::OutOfMemory
+    }
+}
+
+impl<T: Drop> From<AllocFailed<T>> for MeansFault {
+    fn from(_e: AllocFailed<T>) -> MeansFault {
+        MeansFault::OutOfMemory
+    }
+}
+
+impl From<SearchFault> for MeansFault {
+    fn from(e: SearchFault) -> MeansFault {
+        match e {
+            SearchFault::OutOfMemory => MeansFault::OutOfMemory,
+            SearchFault::TooLarge => MeansFault::TooLarge,
+        }
+    }
+}

@@ -1,0 +1,107 @@
+//! What is found of an automaton and a formula.
+
+ghost use Rattle.std.specs.Prelude.{◌≡◌, ◌<◌, ◌≤◌, All, IfOk, MatchOption};
+ghost use Rattle.pg_hoa_automaton.specs.Formulas as conditions;
+ghost use Rattle.pg_hoa_automaton.specs.Shapes.{FitsShape};
+ghost use Rattle.pg_ltl.specs.Mirrors.Views.{written, form};
+ghost use Rattle.pg_means_look.specs.Certificates.{Certificate, IsEmptyBy};
+ghost use Rattle.pg_means_look.specs.Mirrors.Views.{automaton_of};
+ghost use Rattle.pg_means_look.specs.Mirrors.Places.{IsShown};
+ghost use Rattle.pg_means.specs.Verdicts.{Says};
+
+use crate::completed::{completed, width_of};
+use crate::fault::MeansFault;
+use pg_hoa_automaton::Automaton;
+use pg_ltl::{Formula, NormalForm, normal_form};
+use pg_means_look::{ParityAutomaton, is_shown, shows_empty};
+use pg_means_search::{Lasso, Proposed, propose};
+use std::alloc::Global;
+
+/// Whether an automaton and a formula say the same of each word.
+#[derive(Debug, Drop)]
+pub enum Verdict {
+    /// The automaton accepts exactly the words that satisfy the formula.
+    Same,
+    /// They differ on the word of these letters, those from the place at the end on again and again: if the flag is set the automaton
+    /// accepts it and it doesn't satisfy the formula, and otherwise it satisfies the formula and isn't accepted.
+    Differs(bool, Vec<u32>, usize),
+}
+
+/// A word of the formula that the automaton accepts, for the parity 0, or rejects, for 1; or none if there is no such word.
+fn word_of(
+    alloc: Global,
+    automaton: &ParityAutomaton,
+    formula: &NormalForm,
+    parity: u32,
+) -> Result<Option<Lasso>, MeansFault>
+    requires { parity < 2 }
+    ensures { IfOk result (λ found. MatchOption found
+        ((cert : Certificate) × IsEmptyBy (automaton_of automaton.now) (form formula.now) parity cert)
+        (λ lasso. IsShown (automaton_of automaton.now) (form formula.now) parity lasso.letters.items lasso.back)) }
+{
+    match propose(alloc, automaton, &formula.nodes, formula.root, parity)? {
+        Proposed::Empty(proposal) => {
+            let empty = shows_empty(
+                alloc,
+                automaton,
+                &formula.nodes,
+                formula.root,
+                &proposal.certificate,
+                &proposal,
+                parity,
+            )?;
+            if empty {
+                return Ok(None);
+            }
+        }
+        Proposed::Word(lasso) => {
+            let shown = is_shown(
+                alloc,
+                automaton,
+                &formula.nodes,
+                formula.root,
+                &lasso.letters,
+                lasso.back,
+                parity,
+            )?;
+            if shown {
+                return Ok(Some(lasso));
+            }
+        }
+    }
+    Err(MeansFault::Undecided)
+}
+
+/// How many states times letters there are at most.
+const MOST_STEPS: u64 = 16_777_216;
+
+/// Whether the automaton accepts exactly the words over so many propositions, of which its own are the first, that satisfy the formula.
+/// `places` has for each proposition of the formula which one of all it is; one that isn't there never holds.
+pub fn means(
+    alloc: Global,
+    automaton: &Automaton,
+    formula: &Formula,
+    propositions: u32,
+    places: &[u32],
+) -> Result<Verdict, MeansFault>
+    requires few { propositions ≤ 16 }
+    requires places { All (λ place. place < propositions) places.now }
+    ensures { IfOk result (λ verdict. (condition : conditions.Formula) → FitsShape condition automaton.now.sets automaton.now.shape
+        → Says automaton.now condition propositions places.now (written formula.now) verdict) }
+{
+    let letters = width_of(propositions);
+    let states = automaton.states();
+    if states as u64 * letters as u64 > MOST_STEPS {
+        return Err(MeansFault::TooLarge);
+    }
+    let complete = completed(alloc, automaton, propositions, places)?;
+    let no = normal_form(alloc, formula, false)?;
+    if let Some(lasso) = word_of(alloc, &complete, &no, 0)? {
+        return Ok(Verdict::Differs(true, lasso.letters, lasso.back));
+    }
+    let yes = normal_form(alloc, formula, true)?;
+    if let Some(lasso) = word_of(alloc, &complete, &yes, 1)? {
+        return Ok(Verdict::Differs(false, lasso.letters, lasso.back));
+    }
+    Ok(Verdict::Same)
+}

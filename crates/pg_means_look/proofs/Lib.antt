@@ -1,0 +1,9 @@
+pub mod Ranking
+pub mod Meaning
+pub mod Covering
+pub mod Steps
+pub mod Levels
+pub mod Going
+pub mod Lassos
+pub mod Sound
+pub mod Forms

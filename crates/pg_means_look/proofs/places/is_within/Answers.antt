@@ -1,0 +1,17 @@
+use Rattle.std.proofs.Common.{get_or, arith, subst, ◌∙◌}
+use Rattle.std.specs.Prelude.{All, Contains}
+use Rattle.std.proofs.lemmas.List.{take_all, get_or_default}
+use Rattle.std.proofs.lemmas.List.Elements.{All-more}
+use Rattle.pg_means_look.proofs.places.is_within.Goals as goal
+
+pub loop-place-preserved : goal.loop-place-preserved
+loop-place-preserved c =
+    All-more (Contains c.args.many.now) c.args.few.now c.loop-place.place-index 0 (omega arith) c.loop-place.invariant (
+      c.seek-from.result,
+      omega arith,
+      get_or_default c.args.many.now c.seek-from.result
+          (get_or c.args.few.now c.loop-place.place-index 0) 0 (omega arith) ∙ c.if-many-from.false,
+    )
+
+pub returns : goal.returns
+returns c = subst (All (Contains c.args.many.now)) (take_all c.loop-place.place-index c.args.few.now (omega arith)) c.loop-place.invariant

@@ -1,0 +1,21 @@
+//! Looks at what is proposed of a deterministic parity automaton and a formula: certificates, which show that both say the same of each
+//! word, and lassos, on which they differ.
+#![tactic(auto)]
+
+mod automaton;
+mod certificate;
+mod choice;
+mod lasso;
+pub mod laws;
+mod look;
+mod places;
+mod tableau;
+mod values;
+
+pub use automaton::{Edge, ParityAutomaton};
+pub use certificate::{Certificate, Level, Node};
+pub use choice::Choice;
+pub use lasso::is_shown;
+pub use look::{Finder, shows_empty};
+pub use places::are_below;
+pub use tableau::{choices_at, choices_of_set};

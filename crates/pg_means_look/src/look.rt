@@ -1,0 +1,182 @@
+//! The look: whether a certificate shows that a product is empty.
+
+ghost use Rattle.std.specs.Prelude.{ℕ, ◌<◌, Bool, List, IfOk, length};
+ghost use Rattle.std.specs.Bool.{OnTrue};
+ghost use Rattle.pg_ltl.specs.NormalForms.{NormalForm};
+ghost use Rattle.pg_ltl.specs.Mirrors.Nodes.{normal_in, normals_of, AreNormalNodes};
+ghost use Rattle.pg_means_look.specs.Certificates.{Goes, IsEmptyBy};
+ghost use Rattle.pg_means_look.specs.Mirrors.Tables.{truth_at};
+ghost use Rattle.pg_means_look.specs.Mirrors.Choices.{part, choice_of, AreForms, IsTable};
+ghost use Rattle.pg_means_look.specs.Mirrors.Views.{automaton_of, certificate_of, AreChoices, GoesEach, GoesAt, StartsAt};
+
+use crate::automaton::ParityAutomaton;
+use crate::certificate::Certificate;
+use crate::choice::Choice;
+use crate::places::{are_below, is_within};
+use crate::tableau::{choices_at, choices_of_set, row};
+use pg_ltl::NormalNode;
+use std::alloc::{AllocError, Global};
+
+/// Who knows the numbers of nodes. What it says is looked at.
+pub trait Finder {
+    /// The number of a node with this state, whose formulas are among these.
+    fn find(&self, state: u32, asks: &[usize]) -> Option<usize>;
+}
+
+/// Whether some node stands for what the choice asks, and the edge there doesn't speak against the certificate.
+fn goes<F: Finder>(
+    automaton: &ParityAutomaton,
+    certificate: &Certificate,
+    finder: &F,
+    parity: u32,
+    v: usize,
+    letter: u32,
+    choice: &Choice,
+) -> bool
+    requires { parity < 2 }
+    ensures { OnTrue result ((forms : List NormalForm)
+        → Goes (automaton_of automaton.now) (certificate_of forms certificate.now) parity v letter (choice_of forms choice.now)) }
+{
+    let edge = automaton.edge(certificate.node(v).state, letter);
+    let Some(to) = finder.find(edge.target, &choice.asks) else {
+        return false;
+    };
+    let next = certificate.node(to);
+    if to >= certificate.nodes.len() || next.state != edge.target {
+        return false;
+    }
+    if !is_within(certificate.set(next.set), &choice.asks) {
+        return false;
+    }
+    certificate.is_fine(parity, edge.priority, &choice.puts, v, to)
+}
+
+/// Whether each choice goes from the node to one.
+fn goes_each<F: Finder>(
+    automaton: &ParityAutomaton,
+    certificate: &Certificate,
+    finder: &F,
+    parity: u32,
+    v: usize,
+    letter: u32,
+    list: &[Choice],
+) -> bool
+    requires { parity < 2 }
+    ensures { OnTrue result ((forms : List NormalForm)
+        → GoesEach (automaton_of automaton.now) (certificate_of forms certificate.now) parity v letter forms list.now) }
+{
+    for choice in list {
+        if !goes(automaton, certificate, finder, parity, v, letter, choice) {
+            return false;
+        }
+    }
+    true
+}
+
+/// The choices of each set, up to the first set with a place that no formula has.
+fn choices_of_sets(
+    alloc: Global,
+    sets: &[Vec<usize>],
+    table: &[Vec<Choice>],
+) -> Result<Vec<Vec<Choice>>, AllocError>
+    ensures { IfOk result (λ lists. (forms : List NormalForm) (letter : ℕ → Bool) → IsTable letter forms table.now
+        → AreChoices letter forms sets.now lists.items) }
+{
+    let mut lists = Vec::new(alloc);
+    for set in sets {
+        if !are_below(set, table.len()) {
+            return Ok(lists);
+        }
+        let list = choices_of_set(alloc, set, table)?;
+        lists.push(list)?;
+    }
+    Ok(lists)
+}
+
+/// Whether each choice at the letter goes from each node to one, by the choices of the sets at this letter.
+fn goes_from_each<F: Finder>(
+    automaton: &ParityAutomaton,
+    certificate: &Certificate,
+    finder: &F,
+    parity: u32,
+    letter: u32,
+    lists: &[Vec<Choice>],
+) -> bool
+    requires { parity < 2 }
+    ensures { OnTrue result ((forms : List NormalForm) → AreChoices (λ p. truth_at automaton.now.truths.items p letter) forms
+        certificate.now.sets.items lists.now → (v : ℕ) → v < length certificate.now.nodes.items
+        → GoesAt (automaton_of automaton.now) (certificate_of forms certificate.now) parity v letter) }
+{
+    for v in 0..certificate.nodes.len() {
+        let set = certificate.node(v).set;
+        if set >= lists.len() {
+            return false;
+        }
+        let list = row(lists, set);
+        if !goes_each(automaton, certificate, finder, parity, v, letter, list) {
+            return false;
+        }
+    }
+    true
+}
+
+/// Whether each choice at the letter goes from each node to one.
+fn goes_at<F: Finder>(
+    alloc: Global,
+    automaton: &ParityAutomaton,
+    nodes: &[NormalNode],
+    certificate: &Certificate,
+    finder: &F,
+    parity: u32,
+    letter: u32,
+) -> Result<bool, AllocError>
+    requires parity { parity < 2 }
+    requires ordered { AreNormalNodes nodes.now }
+    ensures { IfOk result (λ yes. OnTrue yes ((forms : List NormalForm) → AreForms nodes.now forms
+        → (v : ℕ) → v < length certificate.now.nodes.items
+        → GoesAt (automaton_of automaton.now) (certificate_of forms certificate.now) parity v letter)) }
+{
+    let table = choices_at(alloc, nodes, &automaton.truths, letter)?;
+    let lists = choices_of_sets(alloc, &certificate.sets, &table)?;
+    Ok(goes_from_each(automaton, certificate, finder, parity, letter, &lists))
+}
+
+/// Whether the first node stands for the start, and for the formula at a place.
+fn starts(automaton: &ParityAutomaton, certificate: &Certificate, root: usize) -> bool
+    ensures { OnTrue result ((forms : List NormalForm) → StartsAt (automaton_of automaton.now) (certificate_of forms certificate.now)
+        (part forms root)) }
+{
+    let first = certificate.node(0);
+    if certificate.nodes.len() == 0 || first.state != automaton.start {
+        return false;
+    }
+    is_within(certificate.set(first.set), &[root])
+}
+
+/// Whether the certificate shows that no word is one of the formula and has a greatest recurring priority of this parity in the
+/// automaton: 0 for even, 1 for odd. The formula is the one at the place `root` of a list. Each letter is looked at, each node, and
+/// each choice of the node's formulas. Where the answer is no there may be such words or not.
+pub fn shows_empty<F: Finder>(
+    alloc: Global,
+    automaton: &ParityAutomaton,
+    nodes: &[NormalNode],
+    root: usize,
+    certificate: &Certificate,
+    finder: &F,
+    parity: u32,
+) -> Result<bool, AllocError>
+    requires parity { parity < 2 }
+    requires ordered { AreNormalNodes nodes.now }
+    ensures { IfOk result (λ yes. OnTrue yes (IsEmptyBy (automaton_of automaton.now) (normal_in nodes.now root) parity
+        (certificate_of (normals_of nodes.now) certificate.now))) }
+{
+    if !starts(automaton, certificate, root) {
+        return Ok(false);
+    }
+    for letter in 0..automaton.letters {
+        if !goes_at(alloc, automaton, nodes, certificate, finder, parity, letter)? {
+            return Ok(false);
+        }
+    }
+    Ok(true)
+}

@@ -1,0 +1,45 @@
+-- What is found of the automaton that a text spells and the formula that another text spells.
+use Rattle.std.specs.Prelude.{◌≡◌, ℕ, ◌<◌, ◌≤◌, List, length}
+use Rattle.pg_hoa_automaton.specs.Automata.{Automaton}
+use Rattle.pg_hoa.specs.AutomatonText as hoa
+use Rattle.pg_ltl.specs.Formulas.{Formula}
+use Rattle.pg_ltl.specs.Texts as ltl
+use Rattle.pg_means.specs.Verdicts.{Says}
+use Rattle.pg_means.specs.declared.verdict.Verdict.{Verdict}
+use Rattle.pg_means.specs.declared.fault.MeansFault.TheVariants.{OutOfMemory}
+use Rattle.pg_means_texts.specs.Names.{all_names, places_of}
+use Rattle.pg_means_texts.specs.declared.fault.CompareFault.{CompareFault}
+use Rattle.pg_means_texts.specs.declared.fault.CompareFault.TheVariants.{Hoa, TooManyPropositions, Means}
+use Rattle.pg_means_texts.specs.declared.fault.CompareFault.TheVariants as faults
+
+-- the first text spells the automaton, and the second the formula, whose propositions have these names
+pub record ArePaired (first second : List ℕ) (a : Automaton) (own : List (List ℕ)) (f : Formula) : Type 0 where
+  pub spelt : hoa.Spelt first a
+  pub read : ltl.Spelt second own f
+
+-- The texts spell an automaton and a formula, and these are the names of all their propositions, 16 at most. Over words of these the
+-- verdict says what is so: the automaton and the formula are the same, or a lasso on which they differ.
+pub record IsCompared (first second : List ℕ) (names : List (List ℕ)) (verdict : Verdict) : Type 0 where
+  pub automaton : Automaton
+  pub own : List (List ℕ)
+  pub formula : Formula
+  pub paired : ArePaired first second automaton own formula
+  pub all : names ≡ all_names automaton.propositions own
+  pub few : length names ≤ 16
+  pub says : Says automaton paired.spelt.says.condition (length names) (places_of names own) formula verdict
+
+-- ---- what is refused
+
+-- the texts spell an automaton and a formula, the names of whose propositions are such
+abbrev pub HaveNames : List ℕ → List ℕ → (List (List ℕ) → Type 0) → Type 0
+HaveNames first second P =
+    (a : Automaton) × (own : List (List ℕ)) × (f : Formula) × ArePaired first second a own f × P (all_names a.propositions own)
+
+-- Why two texts have no verdict: the first spells no automaton; it does, and the second spells no formula; they have too many propositions
+-- together; or, where they haven't, no verdict was found. Memory may run out on each text.
+abbrev pub Refuses : List ℕ → List ℕ → CompareFault → Type 0
+Refuses first second (Hoa fault) = hoa.IsRefused first fault
+Refuses first second (faults.Formula fault) = ((a : Automaton) × hoa.Spelt first a) × ltl.IsRefused second fault
+Refuses first second TooManyPropositions = HaveNames first second (λ names. 16 < length names)
+Refuses first second (Means OutOfMemory) = Unit {0}
+Refuses first second (Means fault) = HaveNames first second (λ names. length names ≤ 16)

@@ -1,0 +1,12 @@
+//! Whether the automaton that a text spells accepts exactly the words that satisfy the formula that another text spells.
+#![tactic(auto)]
+
+mod comparison;
+mod fault;
+mod names;
+mod writing;
+
+pub use comparison::{Compared, compare};
+pub use fault::CompareFault;
+pub use pg_means::{MeansFault, Verdict};
+pub use writing::write_compared;
