@@ -1,0 +1,196 @@
+//! Complete deterministic automata, by classes of letters.
+
+use crate::fault::Found;
+use crate::lists::Lists;
+use crate::numbers::{NONE, at, between, count, gathered, item, power, put};
+use std::alloc::Global;
+
+/// Where an edge leads, and what it is marked with: a priority, or a set of colours as bits.
+#[derive(Clone, Copy, PartialEq, Eq, PartialOrd, Ord)]
+pub struct Edge {
+    pub target: u32,
+    pub mark: u32,
+}
+
+impl Edge {
+    /// Where no edge is.
+    pub const NONE: Edge = Edge {
+        target: NONE,
+        mark: 0,
+    };
+}
+
+/// The class of each letter. Letters of a class lead to the same from each state.
+#[derive(Drop)]
+pub struct Classes {
+    of: Vec<u32>,
+    pub many: u32,
+}
+
+impl Classes {
+    /// All letters over so many propositions in one class.
+    pub fn new(alloc: Global, propositions: u32) -> Found<Classes> {
+        Ok(Classes {
+            of: vec![in alloc; 0; power(propositions) as usize]?,
+            many: 1,
+        })
+    }
+
+    pub fn of(&self, letter: u32) -> u32 {
+        at(&self.of, letter)
+    }
+
+    pub fn letters(&self) -> u32 {
+        count(self.of.len())
+    }
+
+    pub fn clone(&self) -> Found<Classes> {
+        Ok(Classes {
+            of: self.of.clone()?,
+            many: self.many,
+        })
+    }
+
+    /// The least letter of each class.
+    pub fn examples(&self, alloc: Global) -> Found<Vec<u32>> {
+        let mut examples = vec![in alloc; 0; self.many as usize]?;
+        for letter in (0..self.letters()).rev() {
+            put(&mut examples, self.of(letter), letter);
+        }
+        Ok(examples)
+    }
+
+    /// Parts the classes by the edges of a state, which are given letter by letter over the propositions of a mask.
+    pub fn refine(&mut self, alloc: Global, edges: &[Edge], mask: u32) -> Found<()> {
+        let mut numbers = Lists::new(alloc);
+        let (mut last, mut last_number) = ([NONE, NONE, NONE], 0);
+        for letter in 0..self.letters() {
+            let edge = item(edges, gathered(letter, mask), Edge::NONE);
+            let key = [self.of(letter), edge.target, edge.mark];
+            if key != last {
+                last_number = numbers.number(&key)?;
+                last = key;
+            }
+            put(&mut self.of, letter, last_number);
+        }
+        self.many = numbers.len();
+        Ok(())
+    }
+
+    /// Gives each class another number.
+    pub fn renumber(&mut self, numbers: &[u32], many: u32) {
+        for class in self.of.iter_mut() {
+            *class = at(numbers, *class);
+        }
+        self.many = many;
+    }
+}
+
+/// An automaton with priorities as marks: a word is accepted if the greatest that recurs is even. It begins in state 0.
+#[derive(Drop)]
+pub struct Automaton {
+    pub alloc: Global,
+    pub classes: Classes,
+    /// State by state the edge of each class.
+    pub edges: Vec<Edge>,
+    /// States with one key are known to accept the same words.
+    pub keys: Vec<u32>,
+}
+
+impl Automaton {
+    /// The automaton whose edges are given state by state and letter by letter.
+    pub fn of_letters(
+        alloc: Global,
+        propositions: u32,
+        edges: &[Edge],
+        keys: Vec<u32>,
+    ) -> Found<Automaton> {
+        let mut classes = Classes::new(alloc, propositions)?;
+        let letters = classes.letters();
+        for row in edges.chunks(letters.max(1) as usize) {
+            classes.refine(alloc, row, letters.wrapping_sub(1))?;
+        }
+        let examples = classes.examples(alloc)?;
+        let mut by_class = Vec::new(alloc);
+        for row in edges.chunks(letters.max(1) as usize) {
+            for letter in &examples {
+                by_class.push(item(row, *letter, Edge::NONE))?;
+            }
+        }
+        Ok(Automaton {
+            alloc,
+            classes,
+            edges: by_class,
+            keys,
+        })
+    }
+
+    /// How many states there are.
+    pub fn len(&self) -> u32 {
+        count(self.edges.len()) / self.classes.many.max(1)
+    }
+
+    /// The edges of a state, by classes.
+    pub fn row(&self, state: u32) -> &[Edge] {
+        let from = state.saturating_mul(self.classes.many);
+        between(&self.edges, from, from.saturating_add(self.classes.many))
+    }
+
+    pub fn step(&self, state: u32, letter: u32) -> Edge {
+        item(self.row(state), self.classes.of(letter), Edge::NONE)
+    }
+
+    /// The edges of a state, once each, rising.
+    pub fn distinct(&self, state: u32) -> Found<Vec<Edge>> {
+        let mut edges = Vec::from_slice(self.alloc, self.row(state))?;
+        edges.sort_unstable();
+        edges.dedup();
+        Ok(edges)
+    }
+
+    pub fn greatest_priority(&self) -> u32 {
+        let mut greatest = 0;
+        for edge in &self.edges {
+            greatest = greatest.max(edge.mark);
+        }
+        greatest
+    }
+
+    /// Whether a state leads only to itself, and accepts or rejects.
+    pub fn is_sink(&self, state: u32, accepts: bool) -> bool {
+        let mut row = self.row(state).iter();
+        row.all(|edge| edge.target == state && (edge.mark % 2 == 0) == accepts)
+    }
+
+    /// The automaton of what is reached when each state is replaced by another one, numbered as it is met.
+    pub fn replaced(&self, by: &[u32]) -> Found<Automaton> {
+        let mut numbers = vec![in self.alloc; NONE; self.len() as usize]?;
+        let mut order = vec![in self.alloc; at(by, 0); 1]?;
+        put(&mut numbers, at(by, 0), 0);
+        let mut edges = Vec::new(self.alloc);
+        let mut keys = Vec::new(self.alloc);
+        for place in 0..self.len() {
+            let Some(state) = order.get(place as usize).copied() else {
+                break;
+            };
+            keys.push(at(&self.keys, state))?;
+            for edge in self.row(state) {
+                let target = at(by, edge.target);
+                if at(&numbers, target) == NONE {
+                    put(&mut numbers, target, count(order.len()));
+                    order.push(target)?;
+                }
+                edges.push(Edge {
+                    target: at(&numbers, target),
+                    mark: edge.mark,
+                })?;
+            }
+        }
+        Ok(Automaton {
+            alloc: self.alloc,
+            classes: self.classes.clone()?,
+            edges,
+            keys,
+        })
+    }
+}

@@ -1,0 +1,266 @@
+//! Binary decision diagrams, reduced and shared (Bryant, IEEE Transactions on Computers 35, 1986).
+
+use crate::fault::Found;
+use crate::numbers::{NONE, Notes, at, count, has_bit, spend};
+use indexmap::IndexSet;
+use std::alloc::Global;
+
+/// The diagrams of false and true.
+pub const NEVER: u32 = 0;
+
+pub const ALWAYS: u32 = 1;
+
+/// A choice by a variable between the diagrams where it is false and where it is true.
+#[derive(Clone, Copy, PartialEq, Eq, Hash)]
+struct Branch {
+    variable: u32,
+    low: u32,
+    high: u32,
+}
+
+/// The diagram of `test` and `then`, or not `test` and `other`.
+#[derive(Clone, Copy, PartialEq, Eq, Hash)]
+struct Choice {
+    test: u32,
+    then: u32,
+    other: u32,
+}
+
+/// What is to be done on the way to a choice.
+#[derive(Clone, Copy)]
+enum Task {
+    Look(Choice),
+    /// To join the last two diagrams by this variable.
+    Join(u32, Choice),
+}
+
+/// Diagrams. A branch leads to smaller numbers; the last ones have no variable.
+#[derive(Drop)]
+pub struct Bdd {
+    alloc: Global,
+    branches: IndexSet<Branch>,
+    /// Choices that were made, and their diagrams.
+    choices: IndexSet<Choice>,
+    made: Vec<u32>,
+    steps: u64,
+}
+
+impl Bdd {
+    /// So many steps may be made.
+    pub fn new(alloc: Global, steps: u64) -> Found<Bdd> {
+        let mut bdd = Bdd {
+            alloc,
+            branches: IndexSet::new(alloc),
+            choices: IndexSet::new(alloc),
+            made: Vec::new(alloc),
+            steps,
+        };
+        for constant in [NEVER, ALWAYS] {
+            let _ = bdd.branches.insert_full(Branch {
+                variable: NONE,
+                low: constant,
+                high: constant,
+            })?;
+        }
+        Ok(bdd)
+    }
+
+    fn branch(&self, f: u32) -> Branch {
+        match self.branches.get_index(f as usize) {
+            Some(branch) => *branch,
+            None => Branch {
+                variable: NONE,
+                low: NEVER,
+                high: NEVER,
+            },
+        }
+    }
+
+    /// The variable of the first choice of a diagram.
+    pub fn top(&self, f: u32) -> u32 {
+        self.branch(f).variable
+    }
+
+    /// The diagram where a variable is false, and where it is true.
+    fn cut(&self, f: u32, variable: u32) -> (u32, u32) {
+        let branch = self.branch(f);
+        if branch.variable == variable {
+            (branch.low, branch.high)
+        } else {
+            (f, f)
+        }
+    }
+
+    fn join(&mut self, variable: u32, low: u32, high: u32) -> Found<u32> {
+        if low == high {
+            return Ok(low);
+        }
+        let (number, _) = self.branches.insert_full(Branch {
+            variable,
+            low,
+            high,
+        })?;
+        Ok(count(number))
+    }
+
+    pub fn variable(&mut self, variable: u32) -> Found<u32> {
+        self.join(variable, NEVER, ALWAYS)
+    }
+
+    /// The diagram of a choice, if that is clear.
+    fn known(&self, choice: Choice) -> Option<u32> {
+        match (choice.test, choice.then, choice.other) {
+            (ALWAYS, then, _) => Some(then),
+            (NEVER, _, other) => Some(other),
+            (test, ALWAYS, NEVER) => Some(test),
+            (_, then, other) if then == other => Some(then),
+            _ => match self.choices.get_index_of(&choice) {
+                Some(number) => Some(at(&self.made, count(number))),
+                None => None,
+            },
+        }
+    }
+
+    /// The diagram of `test` and `then`, or not `test` and `other`.
+    pub fn choose(&mut self, test: u32, then: u32, other: u32) -> Found<u32> {
+        let mut tasks = Vec::new(self.alloc);
+        let mut done = Vec::new(self.alloc);
+        tasks.push(Task::Look(Choice { test, then, other }))?;
+        for _ in 0..u64::MAX {
+            let Some(task) = tasks.pop() else {
+                break;
+            };
+            match task {
+                Task::Look(choice) => match self.known(choice) {
+                    Some(known) => done.push(known)?,
+                    None => self.part(choice, &mut tasks)?,
+                },
+                Task::Join(variable, choice) => {
+                    let high = done.pop().unwrap_or(NEVER);
+                    let low = done.pop().unwrap_or(NEVER);
+                    let joined = self.join(variable, low, high)?;
+                    let _ = self.choices.insert_full(choice)?;
+                    self.made.push(joined)?;
+                    done.push(joined)?;
+                }
+            }
+        }
+        Ok(done.pop().unwrap_or(NEVER))
+    }
+}
+
+impl Bdd {
+    /// Parts a choice by its least variable.
+    fn part(&mut self, choice: Choice, tasks: &mut Vec<Task>) -> Found<()> {
+        spend(&mut self.steps, 1)?;
+        let Choice { test, then, other } = choice;
+        let variable = self.top(test).min(self.top(then)).min(self.top(other));
+        let (test_low, test_high) = self.cut(test, variable);
+        let (then_low, then_high) = self.cut(then, variable);
+        let (other_low, other_high) = self.cut(other, variable);
+        tasks.push(Task::Join(variable, choice))?;
+        tasks.push(Task::Look(Choice {
+            test: test_high,
+            then: then_high,
+            other: other_high,
+        }))?;
+        tasks.push(Task::Look(Choice {
+            test: test_low,
+            then: then_low,
+            other: other_low,
+        }))?;
+        Ok(())
+    }
+}
+
+impl Bdd {
+    pub fn and(&mut self, f: u32, g: u32) -> Found<u32> {
+        self.choose(f, g, NEVER)
+    }
+
+    pub fn or(&mut self, f: u32, g: u32) -> Found<u32> {
+        self.choose(f, ALWAYS, g)
+    }
+
+    pub fn not(&mut self, f: u32) -> Found<u32> {
+        self.choose(f, NEVER, ALWAYS)
+    }
+
+    /// Where the first variable of a diagram is false, and where it is true.
+    pub fn halves(&self, f: u32) -> (u32, u32) {
+        let branch = self.branch(f);
+        (branch.low, branch.high)
+    }
+
+    /// The diagrams with a variable below `end` that one comes to from a diagram, those behind ones that are noted left out; smaller
+    /// numbers first.
+    fn below(&mut self, f: u32, end: u32, noted: &Notes) -> Found<Vec<u32>> {
+        let mut met = IndexSet::new(self.alloc);
+        let _ = met.insert_full(f)?;
+        let mut found = Vec::new(self.alloc);
+        for place in 0..u32::MAX {
+            let Some(g) = met.get_index(place as usize).copied() else {
+                break;
+            };
+            if self.top(g) < end && noted.get(g) == NONE {
+                spend(&mut self.steps, 1)?;
+                found.push(g)?;
+                let (low, high) = self.halves(g);
+                let _ = met.insert_full(low)?;
+                let _ = met.insert_full(high)?;
+            }
+        }
+        found.sort_unstable();
+        Ok(found)
+    }
+
+    /// The variables of a diagram that are below `end`, rising.
+    pub fn support(&mut self, f: u32, end: u32) -> Found<Vec<u32>> {
+        let mut support = Vec::new(self.alloc);
+        for g in &self.below(f, end, &Notes::new(self.alloc))? {
+            support.push(self.top(*g))?;
+        }
+        support.sort_unstable();
+        support.dedup();
+        Ok(support)
+    }
+
+    /// Each variable replaced by the diagram that is noted for it, if there is one. Notes what was replaced.
+    pub fn replaced(&mut self, f: u32, by: &Notes, noted: &mut Notes) -> Found<u32> {
+        for g in &self.below(f, NONE, noted)? {
+            let variable = self.top(*g);
+            let mut test = by.get(variable);
+            if test == NONE {
+                test = self.variable(variable)?;
+            }
+            let (low, high) = self.halves(*g);
+            let low = self.noted_or_same(low, noted);
+            let high = self.noted_or_same(high, noted);
+            let replaced = self.choose(test, high, low)?;
+            noted.set(*g, replaced)?;
+        }
+        Ok(self.noted_or_same(f, noted))
+    }
+
+    /// What is noted for a diagram, where constants stand for themselves.
+    fn noted_or_same(&self, f: u32, noted: &Notes) -> u32 {
+        if self.top(f) == NONE { f } else { noted.get(f) }
+    }
+
+    /// What is left of a diagram if the variables below `end` are as the bits of a letter say.
+    pub fn walk(&self, f: u32, end: u32, letter: u32) -> u32 {
+        let mut f = f;
+        for _ in 0..end {
+            let branch = self.branch(f);
+            if branch.variable >= end {
+                break;
+            }
+            f = if has_bit(letter, branch.variable) {
+                branch.high
+            } else {
+                branch.low
+            };
+        }
+        f
+    }
+}

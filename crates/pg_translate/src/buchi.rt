@@ -1,0 +1,247 @@
+//! A Buchi automaton of a formula: the tableau with a counter of Untils.
+
+use crate::components::Ranks;
+use crate::fault::{Found, TranslateFault};
+use crate::lists::Lists;
+use crate::numbers::{MOST_EDGES, between, count, is_marked, item, power, put, spread};
+use crate::pool::Pool;
+use crate::tableau::{Choice, Tableau};
+use indexmap::IndexSet;
+use pg_search_components::Rows;
+use std::alloc::Global;
+
+/// Where an edge leads, and whether it accepts.
+#[derive(Clone, Copy)]
+struct Arc {
+    target: u32,
+    accepts: bool,
+}
+
+/// Lists of edges: for each state and letter one.
+#[derive(Drop)]
+struct Arcs {
+    arcs: Vec<Arc>,
+    /// Where the list of each state and letter ends.
+    ends: Vec<u32>,
+    letters: u32,
+}
+
+impl Arcs {
+    fn states(&self) -> u32 {
+        count(self.ends.len()) / self.letters.max(1)
+    }
+
+    /// The edges of a state and a letter.
+    fn of(&self, state: u32, letter: u32) -> &[Arc] {
+        let place = state.saturating_mul(self.letters).saturating_add(letter);
+        let begin = if place == 0 {
+            0
+        } else {
+            item(&self.ends, place - 1, 0)
+        };
+        between(&self.arcs, begin, item(&self.ends, place, 0))
+    }
+
+    /// All edges of a state.
+    fn of_state(&self, state: u32) -> &[Arc] {
+        let place = state.saturating_mul(self.letters);
+        let begin = if place == 0 {
+            0
+        } else {
+            item(&self.ends, place - 1, 0)
+        };
+        let last = place.saturating_add(self.letters).saturating_sub(1);
+        between(&self.arcs, begin, item(&self.ends, last, 0))
+    }
+}
+
+/// The automaton, with the targets of edges as bits.
+#[derive(Drop)]
+pub struct Buchi {
+    pub letters: u32,
+    /// How many words of 32 bits hold a set of states.
+    pub words: u32,
+    /// For each state and letter all targets, and then those of edges that accept.
+    images: Vec<u32>,
+}
+
+impl Buchi {
+    /// The targets of a state at a letter: all, or those of edges that accept.
+    pub fn image(&self, state: u32, letter: u32, accepting: bool) -> &[u32] {
+        let place = state.saturating_mul(self.letters).saturating_add(letter);
+        let place = place.saturating_mul(2).saturating_add(accepting as u32);
+        let from = place.saturating_mul(self.words);
+        between(&self.images, from, from.saturating_add(self.words))
+    }
+}
+
+/// The sets of a tableau, and for each set and letter its choices; these are sets of the next step by their numbers, and Untils put off.
+#[derive(Drop)]
+struct Sets {
+    letters: u32,
+    choices: Vec<Choice>,
+    ends: Vec<u32>,
+}
+
+/// The sets that are reached in the tableau of a formula, and their choices.
+fn sets_of(pool: &Pool, f: u32, mask: u32) -> Found<Sets> {
+    let mut tableau = Tableau::new(pool);
+    let mut sets = IndexSet::new(pool.alloc);
+    let _ = sets.insert_full(tableau.asked(f)?.unwrap_or(0))?;
+    let mut found = Sets {
+        letters: power(mask.count_ones()),
+        choices: Vec::new(pool.alloc),
+        ends: Vec::new(pool.alloc),
+    };
+    for place in 0..u32::MAX {
+        let Some(set) = sets.get_index(place as usize).copied() else {
+            break;
+        };
+        for local in 0..found.letters {
+            for choice in &tableau.choices(set, spread(local, mask))? {
+                let (number, _) = sets.insert_full(choice.asks)?;
+                found.choices.push(Choice {
+                    asks: number as u64,
+                    puts: choice.puts,
+                })?;
+            }
+            found.ends.push(count(found.choices.len()))?;
+        }
+        if found.choices.len().max(found.ends.len()) > MOST_EDGES {
+            return Err(TranslateFault::TooManyStates);
+        }
+    }
+    Ok(found)
+}
+
+impl Sets {
+    /// The choices of a set at a letter.
+    fn of(&self, set: u32, letter: u32) -> &[Choice] {
+        let place = set.saturating_mul(self.letters).saturating_add(letter);
+        let begin = if place == 0 {
+            0
+        } else {
+            item(&self.ends, place - 1, 0)
+        };
+        between(&self.choices, begin, item(&self.ends, place, 0))
+    }
+
+    /// The Untils that are put off by some choice.
+    fn puts(&self) -> u64 {
+        let mut puts = 0;
+        for choice in &self.choices {
+            puts |= choice.puts;
+        }
+        puts
+    }
+}
+
+/// The level of a counter that goes on over the Untils that aren't put off; 64 behind the last one.
+fn next_level(level: u32, all: u64, puts: u64) -> u32 {
+    let mut next = level;
+    for _ in 0..64 {
+        if next >= 64 || (all & puts).wrapping_shr(next) & 1 == 1 {
+            break;
+        }
+        next = next.saturating_add(1);
+    }
+    next
+}
+
+/// States that are sets with a level of the counter, and their edges: one accepts where the counter comes to its end.
+fn counted(alloc: Global, sets: &Sets) -> Found<Arcs> {
+    let all = sets.puts();
+    let mut states = Lists::new(alloc);
+    states.number(&[0, 0])?;
+    let mut found = Arcs {
+        arcs: Vec::new(alloc),
+        ends: Vec::new(alloc),
+        letters: sets.letters,
+    };
+    for number in 0..u32::MAX {
+        let [set, level] = *states.list(number) else {
+            break;
+        };
+        for letter in 0..sets.letters {
+            for choice in sets.of(set, letter) {
+                let next = next_level(level, all, choice.puts);
+                let accepts = next >= 64;
+                let next = if accepts { 0 } else { next };
+                let target = states.number(&[count(choice.asks as usize), next])?;
+                found.arcs.push(Arc { target, accepts })?;
+            }
+            found.ends.push(count(found.arcs.len()))?;
+        }
+        if found.arcs.len().max(found.ends.len()) > MOST_EDGES {
+            return Err(TranslateFault::TooManyStates);
+        }
+    }
+    Ok(found)
+}
+
+/// The states from which a word is accepted.
+fn live(alloc: Global, arcs: &Arcs) -> Found<Vec<bool>> {
+    let mut rows = Rows::with_capacity(alloc, arcs.states() as usize)?;
+    for state in 0..arcs.states() {
+        for arc in arcs.of_state(state) {
+            rows.push(arc.target)?;
+        }
+        rows.end()?;
+    }
+    let ranks = Ranks::new(alloc, &rows, arcs.states())?;
+    let mut is_live = vec![in alloc; false; ranks.many as usize]?;
+    for state in &ranks.order(alloc)? {
+        let rank = ranks.of(*state);
+        for arc in arcs.of_state(*state) {
+            let target = ranks.of(arc.target);
+            if is_marked(&is_live, target) || arc.accepts && target == rank {
+                put(&mut is_live, rank, true);
+            }
+        }
+    }
+    let mut live = Vec::new(alloc);
+    for state in 0..arcs.states() {
+        live.push(is_marked(&is_live, ranks.of(state)))?;
+    }
+    Ok(live)
+}
+
+/// The automaton of a formula over the propositions of a mask. States from which nothing is accepted are left out.
+pub fn buchi_of(pool: &Pool, f: u32, mask: u32) -> Found<Buchi> {
+    let arcs = counted(pool.alloc, &sets_of(pool, f, mask)?)?;
+    let live = live(pool.alloc, &arcs)?;
+    let words = arcs.states().div_ceil(32);
+    let size = (arcs.ends.len() as u64)
+        .saturating_mul(2)
+        .saturating_mul(words as u64);
+    if size > MOST_EDGES as u64 {
+        return Err(TranslateFault::TooManyStates);
+    }
+    let mut images = vec![in pool.alloc; 0u32; size as usize]?;
+    for state in 0..arcs.states() {
+        for letter in 0..arcs.letters {
+            let place = state.saturating_mul(arcs.letters).saturating_add(letter);
+            let from = place.saturating_mul(2).saturating_mul(words);
+            for arc in arcs.of(state, letter) {
+                if is_marked(&live, arc.target) {
+                    add_bit(&mut images, from, arc.target);
+                    if arc.accepts {
+                        add_bit(&mut images, from.saturating_add(words), arc.target);
+                    }
+                }
+            }
+        }
+    }
+    Ok(Buchi {
+        letters: arcs.letters,
+        words,
+        images,
+    })
+}
+
+/// Puts a number into the set that begins at a place.
+fn add_bit(words: &mut [u32], from: u32, number: u32) {
+    let place = from.saturating_add(number / 32);
+    let word = item(words, place, 0) | power(number % 32);
+    put(words, place, word);
+}

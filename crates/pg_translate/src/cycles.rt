@@ -1,0 +1,114 @@
+//! What holds on a cycle for ever.
+
+use crate::automaton::Edge;
+use crate::components::Ranks;
+use crate::fault::Found;
+use crate::numbers::{NONE, Notes, at, count, has_bit, item, put};
+use crate::pool::{Operator, Pool, Reach};
+use crate::product::Product;
+use std::alloc::Global;
+
+/// The classes of letters on a shortest cycle from a state back to it, inside its component.
+pub fn cycle(alloc: Global, product: &Product, ranks: &Ranks, start: u32) -> Found<Vec<u32>> {
+    let mut befores = Notes::new(alloc);
+    let mut classes = Notes::new(alloc);
+    let mut queue = vec![in alloc; start; 1]?;
+    for turn in 0..product.states.len() {
+        let Some(v) = queue.get(turn as usize).copied() else {
+            break;
+        };
+        for (class, Edge { target, .. }) in product.row(v).iter().enumerate() {
+            if ranks.of(*target) != ranks.of(start) || befores.get(*target) != NONE {
+                continue;
+            }
+            befores.set(*target, v)?;
+            classes.set(*target, count(class))?;
+            if *target == start {
+                return way_back(alloc, &befores, &classes, start, product.states.len());
+            }
+            queue.push(*target)?;
+        }
+    }
+    Ok(Vec::new(alloc))
+}
+
+/// The classes on the way to a state from itself.
+fn way_back(
+    alloc: Global,
+    befores: &Notes,
+    classes: &Notes,
+    start: u32,
+    most: u32,
+) -> Found<Vec<u32>> {
+    let mut way = Vec::new(alloc);
+    let mut v = start;
+    for _ in 0..most {
+        way.push(classes.get(v))?;
+        v = befores.get(v);
+        if v == start {
+            break;
+        }
+    }
+    way.reverse();
+    Ok(way)
+}
+
+/// Whether a formula holds of the word that goes round by these letters for ever.
+pub fn holds_on(pool: &Pool, f: u32, letters: &[u32]) -> Found<bool> {
+    let parts = pool.parts(f, Reach::All)?;
+    let mut places = Notes::new(pool.alloc);
+    let mut found: Vec<Vec<bool>> = Vec::new(pool.alloc);
+    for part in &parts {
+        let values = values_of(pool, *part, letters, &places, &found)?;
+        places.set(*part, count(found.len()))?;
+        found.push(values)?;
+    }
+    match found.last() {
+        Some(values) => Ok(item(values, 0, false)),
+        None => Ok(false),
+    }
+}
+
+/// The values of a formula at each letter, from those of its operands.
+fn values_of(
+    pool: &Pool,
+    f: u32,
+    letters: &[u32],
+    places: &Notes,
+    found: &[Vec<bool>],
+) -> Found<Vec<bool>> {
+    let operator = pool.operator(f);
+    let operands = pool.operands(f);
+    let value = |operand: u32, place: u32| -> bool {
+        match found.get(places.get(at(operands, operand)) as usize) {
+            Some(values) => item(values, place, false),
+            None => false,
+        }
+    };
+    let many = count(letters.len());
+    let is_first = matches!(operator, Operator::Release | Operator::True | Operator::All);
+    let mut values = vec![in pool.alloc; is_first; letters.len()]?;
+    for _ in 0..2 {
+        for place in (0..many).rev() {
+            let next = if place.wrapping_add(1) < many {
+                place.wrapping_add(1)
+            } else {
+                0
+            };
+            let later = item(&values, next, false);
+            let mut operands = 0..count(operands.len());
+            let here = match operator {
+                Operator::False => false,
+                Operator::True => true,
+                Operator::Literal(p, value) => has_bit(at(letters, place), p) == value,
+                Operator::All => operands.all(|it| value(it, place)),
+                Operator::Any => operands.any(|it| value(it, place)),
+                Operator::Next => value(0, next),
+                Operator::Until => value(1, place) || value(0, place) && later,
+                Operator::Release => value(1, place) && (value(0, place) || later),
+            };
+            put(&mut values, place, here);
+        }
+    }
+    Ok(values)
+}

@@ -1,0 +1,100 @@
+//! Automata of temporal formulas, each over the propositions of its own.
+
+use crate::automaton::{Automaton, Edge};
+use crate::bdd::{ALWAYS, NEVER};
+use crate::fault::Found;
+use crate::minimising::minimised;
+use crate::numbers::{NONE, at, count, gathered, item, power};
+
+/// An automaton for a formula.
+#[derive(Drop)]
+pub struct Leaf {
+    /// The propositions of the formula, as bits.
+    pub propositions: u32,
+    automaton: Automaton,
+    /// For each state the diagram of what it accepts, if that is all or nothing; else `NONE`.
+    pub decided: Vec<u32>,
+    /// The priorities, rising. Each but the least is a colour of the product of all leaves.
+    priorities: Vec<u32>,
+    /// The first of these colours.
+    first_colour: u32,
+}
+
+impl Leaf {
+    pub fn new(automaton: &Automaton, propositions: u32) -> Found<Leaf> {
+        let automaton = minimised(automaton)?;
+        let mut decided = Vec::new(automaton.alloc);
+        for state in 0..automaton.len() {
+            decided.push(if automaton.is_sink(state, true) {
+                ALWAYS
+            } else if automaton.is_sink(state, false) {
+                NEVER
+            } else {
+                NONE
+            })?;
+        }
+        let mut priorities = Vec::new(automaton.alloc);
+        for edge in &automaton.edges {
+            priorities.push(edge.mark)?;
+        }
+        priorities.sort_unstable();
+        priorities.dedup();
+        Ok(Leaf {
+            propositions,
+            automaton,
+            decided,
+            priorities,
+            first_colour: 0,
+        })
+    }
+
+    /// A number that states have in common which accept the same words.
+    pub fn key(&self, state: u32) -> u32 {
+        at(&self.automaton.keys, state)
+    }
+
+    /// Gives the leaf its colours, from one on; answers the first one that is left.
+    pub fn colour(&mut self, first: u32) -> u32 {
+        self.first_colour = first;
+        first
+            .saturating_add(count(self.priorities.len()))
+            .saturating_sub(1)
+    }
+
+    /// The edge of a state at a letter over all propositions.
+    pub fn step(&self, state: u32, letter: u32) -> Edge {
+        self.automaton
+            .step(state, gathered(letter, self.propositions))
+    }
+
+    /// The colours of the leaf, as bits.
+    pub fn colours(&self) -> u32 {
+        let many = count(self.priorities.len()).saturating_sub(1);
+        let all = if many >= 32 {
+            u32::MAX
+        } else {
+            power(many).wrapping_sub(1)
+        };
+        all.wrapping_shl(self.first_colour)
+    }
+
+    /// The colour of a priority, as a bit; none for the least priority.
+    pub fn colour_of(&self, priority: u32) -> u32 {
+        match self.priorities.binary_search(&priority) {
+            Ok(rank) if rank > 0 => {
+                power(
+                    self.first_colour
+                        .saturating_add(count(rank).wrapping_sub(1)),
+                )
+            }
+            _ => 0,
+        }
+    }
+
+    /// Whether a run is accepted on which these colours recur.
+    pub fn accepts(&self, colours: u32) -> bool {
+        let own = (colours & self.colours()).wrapping_shr(self.first_colour);
+        let rank = 32u32.saturating_sub(own.leading_zeros());
+        item(&self.priorities, rank, 1) % 2 == 0
+    }
+}

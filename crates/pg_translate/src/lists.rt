@@ -1,0 +1,102 @@
+//! Numbers for lists: equal ones have one number.
+
+use crate::fault::Found;
+use crate::numbers::{at, between, count, put};
+use std::alloc::Global;
+
+/// Lists, numbered from 0 on in the order in which they came.
+#[derive(Drop)]
+pub struct Lists {
+    items: Vec<u32>,
+    /// Where each list ends.
+    ends: Vec<u32>,
+    /// By the remainders of their sums: the lists' numbers, counted from 1, and 0 where a slot is free.
+    slots: Vec<u32>,
+}
+
+/// A number of 64 bits that depends on each item.
+fn sum_of(list: &[u32]) -> u64 {
+    let mut sum: u64 = 0x9E37_79B9_7F4A_7C15;
+    for item in list {
+        sum = (sum ^ *item as u64).wrapping_mul(0x9E37_79B9_7F4A_7C15);
+        sum ^= sum >> 32;
+    }
+    sum
+}
+
+impl Lists {
+    pub fn new(alloc: Global) -> Lists {
+        Lists {
+            items: Vec::new(alloc),
+            ends: Vec::new(alloc),
+            slots: Vec::new(alloc),
+        }
+    }
+
+    /// How many different lists came.
+    pub fn len(&self) -> u32 {
+        count(self.ends.len())
+    }
+
+    /// The list with a number, and an empty one past the last.
+    pub fn list(&self, number: u32) -> &[u32] {
+        if number >= self.len() {
+            return &[];
+        }
+        let begin = if number == 0 {
+            0
+        } else {
+            at(&self.ends, number.wrapping_sub(1))
+        };
+        between(&self.items, begin, at(&self.ends, number))
+    }
+
+    /// The slot of a list, or the free one where it would stand.
+    fn slot(&self, list: &[u32]) -> u32 {
+        let many = self.slots.len() as u64;
+        if many == 0 {
+            return 0;
+        }
+        let mut slot = count((sum_of(list) % many) as usize);
+        for _ in 0..many {
+            let number = at(&self.slots, slot);
+            if number == 0 || self.list(number.wrapping_sub(1)) == list {
+                break;
+            }
+            slot = slot.wrapping_add(1);
+            if slot as u64 >= many {
+                slot = 0;
+            }
+        }
+        slot
+    }
+
+    /// The number of a list, a new one if it didn't come before.
+    pub fn number(&mut self, list: &[u32]) -> Found<u32> {
+        if self.ends.len() >= self.slots.len() / 2 {
+            self.grow()?;
+        }
+        let slot = self.slot(list);
+        let known = at(&self.slots, slot);
+        if known > 0 {
+            return Ok(known - 1);
+        }
+        let number = self.len();
+        self.items.extend_from_slice(list)?;
+        self.ends.push(count(self.items.len()))?;
+        put(&mut self.slots, slot, number.saturating_add(1));
+        Ok(number)
+    }
+
+    /// Makes room for twice as many lists.
+    fn grow(&mut self) -> Found<()> {
+        let room = self.slots.len().saturating_mul(2).max(16);
+        self.slots.clear();
+        self.slots.resize(room, 0)?;
+        for number in 0..self.len() {
+            let slot = self.slot(self.list(number));
+            put(&mut self.slots, slot, number.saturating_add(1));
+        }
+        Ok(())
+    }
+}

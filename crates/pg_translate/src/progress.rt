@@ -1,0 +1,219 @@
+//! Progression: what is asked of the rest of a word, up to propositional equivalence (Bacchus and Kabanza, Artificial Intelligence 116,
+//! 2000; Esparza, Kretinsky and Sickert, Journal of the ACM 67, 2020).
+
+use crate::bdd::{ALWAYS, Bdd, NEVER};
+use crate::fault::Found;
+use crate::numbers::{NONE, Notes, at, count};
+use crate::pool::{Operator, Pool, Reach, TRUE};
+use std::alloc::Global;
+
+/// So many steps may be made with diagrams.
+const STEPS: u64 = 1 << 24;
+
+/// What is asked, as diagrams. Variables below the number of propositions are those of the letter; each other one is an atom, a formula
+/// that is asked of the rest.
+#[derive(Drop)]
+pub struct Progress {
+    pub bdd: Bdd,
+    pub propositions: u32,
+    /// The formula of each atom.
+    atoms: Vec<u32>,
+    /// Whether the negation of an atom is the negated atom.
+    shares: bool,
+    /// For each formula its diagram, where it is asked of the rest, and where it is asked of a letter and the rest behind it.
+    asked: Notes,
+    expansions: Notes,
+    /// For each variable what it asks of the next letter, and what of it is waited for; and the same for diagrams.
+    next: Notes,
+    stepped: Notes,
+    flat: Notes,
+    flattened: Notes,
+    /// For each formula what is left of it if all that may last for ever does.
+    lasting: Notes,
+}
+
+impl Progress {
+    pub fn new(alloc: Global, propositions: u32, shares: bool) -> Found<Progress> {
+        Ok(Progress {
+            bdd: Bdd::new(alloc, STEPS)?,
+            propositions,
+            atoms: Vec::new(alloc),
+            shares,
+            asked: Notes::new(alloc),
+            expansions: Notes::new(alloc),
+            next: Notes::new(alloc),
+            stepped: Notes::new(alloc),
+            flat: Notes::new(alloc),
+            flattened: Notes::new(alloc),
+            lasting: Notes::new(alloc),
+        })
+    }
+
+    /// The formula of an atom.
+    pub fn formula(&self, variable: u32) -> u32 {
+        at(&self.atoms, variable.wrapping_sub(self.propositions))
+    }
+
+    /// Says that an atom stays as it is.
+    pub fn fix(&mut self, variable: u32) -> Found<()> {
+        let same = self.bdd.variable(variable)?;
+        self.next.set(variable, same)
+    }
+
+    /// The atom of a formula, as a diagram.
+    pub fn atom(&mut self, pool: &mut Pool, f: u32) -> Found<u32> {
+        let known = self.asked.get(f);
+        if known != NONE {
+            return Ok(known);
+        }
+        let variable = self.propositions.saturating_add(count(self.atoms.len()));
+        self.atoms.push(f)?;
+        let diagram = self.bdd.variable(variable)?;
+        self.asked.set(f, diagram)?;
+        if self.shares {
+            let negation = pool.negation(f)?;
+            if self.asked.get(negation) == NONE {
+                let negated = self.bdd.not(diagram)?;
+                self.asked.set(negation, negated)?;
+            }
+        }
+        Ok(diagram)
+    }
+
+    /// The junction of diagrams.
+    pub fn joined(&mut self, operator: Operator, notes: &[u32]) -> Found<u32> {
+        let mut all = if operator == Operator::All {
+            ALWAYS
+        } else {
+            NEVER
+        };
+        for diagram in notes {
+            all = if operator == Operator::All {
+                self.bdd.and(all, *diagram)?
+            } else {
+                self.bdd.or(all, *diagram)?
+            };
+        }
+        Ok(all)
+    }
+
+    /// A formula that is asked of the rest.
+    pub fn ask(&mut self, pool: &mut Pool, f: u32) -> Found<u32> {
+        for part in &pool.parts(f, Reach::Junctions)? {
+            if self.asked.get(*part) != NONE {
+                continue;
+            }
+            let operator = pool.operator(*part);
+            let diagram = match operator {
+                Operator::False => NEVER,
+                Operator::True => ALWAYS,
+                Operator::All | Operator::Any => {
+                    let operands = noted(pool, *part, &self.asked)?;
+                    self.joined(operator, &operands)?
+                }
+                Operator::Literal(p, false) => {
+                    let f = pool.add(Operator::Literal(p, true), &[])?;
+                    let positive = self.atom(pool, f)?;
+                    self.bdd.not(positive)?
+                }
+                _ => self.atom(pool, *part)?,
+            };
+            self.asked.set(*part, diagram)?;
+        }
+        Ok(self.asked.get(f))
+    }
+
+    /// What a formula asks of a letter and of the rest behind it.
+    fn expansion(&mut self, pool: &mut Pool, f: u32) -> Found<u32> {
+        for part in &pool.parts(f, Reach::Now)? {
+            if self.expansions.get(*part) == NONE {
+                let diagram = self.expanded(pool, *part)?;
+                self.expansions.set(*part, diagram)?;
+            }
+        }
+        Ok(self.expansions.get(f))
+    }
+
+    /// The same, where that is known of its operands.
+    fn expanded(&mut self, pool: &mut Pool, f: u32) -> Found<u32> {
+        let operator = pool.operator(f);
+        let operands = noted(pool, f, &self.expansions)?;
+        match (operator, operands.as_slice()) {
+            (Operator::True, _) => Ok(ALWAYS),
+            (Operator::Literal(p, value), _) => {
+                let diagram = self.bdd.variable(p)?;
+                if value {
+                    Ok(diagram)
+                } else {
+                    self.bdd.not(diagram)
+                }
+            }
+            (Operator::All | Operator::Any, parts) => self.joined(operator, parts),
+            (Operator::Next, _) => {
+                let later = pool.operands(f).first().copied().unwrap_or(TRUE);
+                self.ask(pool, later)
+            }
+            (Operator::Until, [left, right]) => {
+                let later = self.atom(pool, f)?;
+                let wait = self.bdd.and(*left, later)?;
+                self.bdd.or(*right, wait)
+            }
+            (Operator::Release, [left, right]) => {
+                let later = self.atom(pool, f)?;
+                let free = self.bdd.or(*left, later)?;
+                self.bdd.and(*right, free)
+            }
+            _ => Ok(NEVER),
+        }
+    }
+
+    /// What is asked is asked of the next letter.
+    pub fn step(&mut self, pool: &mut Pool, f: u32) -> Found<u32> {
+        for variable in &self.bdd.support(f, NONE)? {
+            if self.next.get(*variable) == NONE {
+                let atom = self.formula(*variable);
+                let diagram = self.expansion(pool, atom)?;
+                self.next.set(*variable, diagram)?;
+            }
+        }
+        self.bdd.replaced(f, &self.next, &mut self.stepped)
+    }
+
+    /// What is left to wait for, if all that may last for ever does.
+    pub fn waits(&mut self, pool: &mut Pool, f: u32) -> Found<u32> {
+        for variable in &self.bdd.support(f, NONE)? {
+            if self.flat.get(*variable) == NONE {
+                let awaited = self.awaited(pool, self.formula(*variable))?;
+                let diagram = self.ask(pool, awaited)?;
+                self.flat.set(*variable, diagram)?;
+            }
+        }
+        self.bdd.replaced(f, &self.flat, &mut self.flattened)
+    }
+
+    /// The formula that is left of one, if all that may last for ever does.
+    fn awaited(&mut self, pool: &mut Pool, f: u32) -> Found<u32> {
+        for part in &pool.parts(f, Reach::JunctionsAndNext)? {
+            let operator = pool.operator(*part);
+            let awaited = match operator {
+                Operator::Release => TRUE,
+                Operator::All | Operator::Any | Operator::Next => {
+                    let operands = noted(pool, *part, &self.lasting)?;
+                    pool.make(operator, &operands)?
+                }
+                _ => *part,
+            };
+            self.lasting.set(*part, awaited)?;
+        }
+        Ok(self.lasting.get(f))
+    }
+}
+
+/// What is noted for the operands of a formula.
+fn noted(pool: &Pool, f: u32, notes: &Notes) -> Found<Vec<u32>> {
+    let mut operands = Vec::new(pool.alloc);
+    for operand in pool.operands(f) {
+        operands.push(notes.get(*operand))?;
+    }
+    Ok(operands)
+}

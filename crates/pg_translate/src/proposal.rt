@@ -1,0 +1,46 @@
+//! From a formula to the text of an automaton.
+
+use crate::fault::TranslateFault;
+use crate::minimising::minimised;
+use crate::numbers::count;
+use crate::pool::Pool;
+use crate::skeleton::Skeleton;
+use crate::writing::text_of;
+use pg_ltl::{Formula, normal_form};
+use std::alloc::Global;
+
+/// So many states may a text have, and so many states times letters.
+const MOST_STATES: u32 = 65_535;
+
+const MOST_PLACES: u64 = 1 << 24;
+
+/// Proposes the text of a deterministic parity automaton (HOA v1) that is to accept exactly the words that satisfy the formula. `names`
+/// has the name of each proposition, in the order of the formula's numbers. Nothing is believed of it.
+///
+/// 1. The formula is a combination of temporal formulas. Those that are safety or co-safety are progressed together, and each other one
+///    becomes an automaton of its own, a leaf: by breakpoints, or by Safra's trees.
+/// 2. In each component of the product the leaves' priorities become one, by a Zielonka tree.
+/// 3. What comes out is made smaller.
+pub fn propose(
+    alloc: Global,
+    formula: &Formula,
+    names: &[Vec<u8>],
+) -> Result<Vec<u8>, TranslateFault> {
+    if names.len() > 16 {
+        return Err(TranslateFault::TooManyStates);
+    }
+    let normal = normal_form(alloc, formula, true)?;
+    let mut pool = Pool::new(alloc)?;
+    let root = pool.read(&normal.nodes, normal.root)?;
+    let mut skeleton = Skeleton::new(pool, count(names.len()))?;
+    let asked = skeleton.diagram(root)?;
+    skeleton.colour()?;
+    let product = skeleton.product(asked)?;
+    let automaton = skeleton.parity(product)?;
+    let automaton = minimised(&automaton)?;
+    let places = (automaton.len() as u64).saturating_mul(automaton.classes.letters() as u64);
+    if automaton.len() > MOST_STATES || places > MOST_PLACES {
+        return Err(TranslateFault::TooManyStates);
+    }
+    text_of(&automaton, names)
+}

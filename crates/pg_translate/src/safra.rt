@@ -1,0 +1,256 @@
+//! Safra's trees (Foundations of Computer Science, 1988), with nodes in the order of their age (Piterman, Logical Methods in Computer
+//! Science 3, 2007).
+
+use crate::automaton::{Automaton, Edge};
+use crate::buchi::{Buchi, buchi_of};
+use crate::fault::{Found, TranslateFault};
+use crate::leaf::Leaf;
+use crate::lists::Lists;
+use crate::numbers::{MOST_EDGES, NONE, count, has_bit, is_marked, item, put, spend};
+use crate::pool::Pool;
+use std::alloc::Global;
+
+/// So many steps from node to node may be made.
+const STEPS: u64 = 1 << 27;
+
+/// A node: the place of its parent, and the states of its label as bits.
+#[derive(Drop)]
+struct Node {
+    parent: u32,
+    label: Vec<u32>,
+}
+
+impl Node {
+    fn is_empty(&self) -> bool {
+        self.label.iter().all(|word| *word == 0)
+    }
+
+    /// Keeps the states of another label, or leaves them out.
+    fn cut(&mut self, label: &[u32], keeps: bool) {
+        for (word, other) in self.label.iter_mut().zip(label) {
+            *word &= if keeps { *other } else { !*other };
+        }
+    }
+}
+
+/// A tree: its nodes in the order of their age, the root first.
+#[derive(Drop)]
+struct Tree {
+    nodes: Vec<Node>,
+}
+
+/// The states to which those of a label lead.
+fn image(
+    alloc: Global,
+    buchi: &Buchi,
+    label: &[u32],
+    letter: u32,
+    accepting: bool,
+) -> Found<Vec<u32>> {
+    let mut image = vec![in alloc; 0u32; buchi.words as usize]?;
+    let mut first = 0u32;
+    for word in label {
+        for bit in 0..32 {
+            if has_bit(*word, bit) {
+                let state = first.saturating_add(bit);
+                let targets = buchi.image(state, letter, accepting);
+                for (word, other) in image.iter_mut().zip(targets) {
+                    *word |= *other;
+                }
+            }
+        }
+        first = first.saturating_add(32);
+    }
+    Ok(image)
+}
+
+impl Tree {
+    /// The tree that was written as a list.
+    fn read(alloc: Global, list: &[u32], words: u32) -> Found<Tree> {
+        let mut nodes = Vec::new(alloc);
+        for part in list.chunks((words as usize).saturating_add(1)) {
+            if let Some((parent, label)) = part.split_first() {
+                nodes.push(Node {
+                    parent: *parent,
+                    label: Vec::from_slice(alloc, label)?,
+                })?;
+            }
+        }
+        Ok(Tree { nodes })
+    }
+
+    /// The nodes behind a letter, and of each a new child for what was accepted, before anything is left out.
+    fn grown(&self, alloc: Global, buchi: &Buchi, letter: u32) -> Found<Tree> {
+        let mut nodes = Vec::new(alloc);
+        for node in &self.nodes {
+            nodes.push(Node {
+                parent: node.parent,
+                label: image(alloc, buchi, &node.label, letter, false)?,
+            })?;
+        }
+        for (place, node) in self.nodes.iter().enumerate() {
+            nodes.push(Node {
+                parent: count(place),
+                label: image(alloc, buchi, &node.label, letter, true)?,
+            })?;
+        }
+        Ok(Tree { nodes })
+    }
+
+    /// Leaves out of each label what isn't in the parent's, and what is in that of an older child of it.
+    fn part(&mut self) {
+        for place in 1..self.nodes.len() {
+            let place = place.min(self.nodes.len());
+            let (older, rest) = self.nodes.split_at_mut(place);
+            let Some(node) = rest.first_mut() else {
+                break;
+            };
+            for (other_place, other) in older.iter().enumerate() {
+                if count(other_place) == node.parent {
+                    node.cut(&other.label, true);
+                } else if other_place > 0 && other.parent == node.parent {
+                    node.cut(&other.label, false);
+                }
+            }
+        }
+    }
+
+    /// Whether the labels of the children of a node are all of its label.
+    fn is_fulfilled(&self, alloc: Global, place: u32) -> Found<bool> {
+        let Some(node) = self.nodes.get(place as usize) else {
+            return Ok(false);
+        };
+        let mut rest = Node {
+            parent: 0,
+            label: node.label.clone()?,
+        };
+        for (other_place, other) in self.nodes.iter().enumerate() {
+            if other_place > place as usize && other.parent == place {
+                rest.cut(&other.label, false);
+            }
+        }
+        Ok(rest.is_empty())
+    }
+
+    /// Which nodes go, where the first `old` were there before, and the least that happened: 2 i where the node i was fulfilled, 2 i - 1
+    /// where it went, or `NONE`.
+    fn leavers(&self, alloc: Global, old: u32) -> Found<(Vec<bool>, u32)> {
+        let mut goes = vec![in alloc; false; self.nodes.len()]?;
+        let mut event = NONE;
+        for (place, node) in self.nodes.iter().enumerate() {
+            let place = count(place);
+            if place > 0 && is_marked(&goes, node.parent) {
+                put(&mut goes, place, true);
+            }
+            if is_marked(&goes, place) {
+                continue;
+            }
+            if node.is_empty() {
+                put(&mut goes, place, true);
+                if place < old {
+                    event = event.min(place.saturating_mul(2).max(1).wrapping_sub(1));
+                }
+            } else if self.is_fulfilled(alloc, place)? {
+                event = event.min(place.saturating_mul(2));
+                for (other, child) in self.nodes.iter().enumerate() {
+                    if count(other) > place && child.parent == place {
+                        put(&mut goes, count(other), true);
+                    }
+                }
+            }
+        }
+        Ok((goes, event))
+    }
+
+    /// The nodes that stay, as a list.
+    fn written(&self, alloc: Global, goes: &[bool]) -> Found<Vec<u32>> {
+        let mut places = vec![in alloc; 0u32; self.nodes.len()]?;
+        let mut list = Vec::new(alloc);
+        let mut many = 0u32;
+        for (place, node) in self.nodes.iter().enumerate() {
+            let place = count(place);
+            if !is_marked(goes, place) {
+                put(&mut places, place, many);
+                many = many.saturating_add(1);
+                list.push(item(&places, node.parent, 0))?;
+                list.extend_from_slice(&node.label)?;
+            }
+        }
+        Ok(list)
+    }
+}
+
+/// The tree behind a letter, as a list, and the least that happened.
+fn step(
+    alloc: Global,
+    buchi: &Buchi,
+    list: &[u32],
+    letter: u32,
+    steps: &mut u64,
+) -> Found<(Vec<u32>, u32)> {
+    if list.is_empty() {
+        return Ok((Vec::new(alloc), 1));
+    }
+    let tree = Tree::read(alloc, list, buchi.words)?;
+    let mut grown = tree.grown(alloc, buchi, letter)?;
+    let many = grown.nodes.len() as u64;
+    spend(
+        steps,
+        many.saturating_mul(many).saturating_mul(buchi.words as u64),
+    )?;
+    grown.part();
+    let (goes, event) = grown.leavers(alloc, count(tree.nodes.len()))?;
+    Ok((grown.written(alloc, &goes)?, event))
+}
+
+/// The automaton of any formula.
+pub fn by_trees(pool: &Pool, f: u32) -> Found<Leaf> {
+    let alloc = pool.alloc;
+    let mask = pool.facts(f).propositions;
+    let buchi = buchi_of(pool, f, mask)?;
+    let mut trees = Lists::new(alloc);
+    let mut root = vec![in alloc; 0u32; (buchi.words as usize).saturating_add(1)]?;
+    put(&mut root, 1, 1);
+    trees.number(&root)?;
+    let mut labels = Lists::new(alloc);
+    let mut edges = Vec::new(alloc);
+    let mut keys = Vec::new(alloc);
+    let mut steps = STEPS;
+    for number in 0..u32::MAX {
+        if number >= trees.len() {
+            break;
+        }
+        let list = Vec::from_slice(alloc, trees.list(number))?;
+        let label = list.get(1..(buchi.words as usize).saturating_add(1));
+        keys.push(labels.number(label.unwrap_or(&[]))?)?;
+        for letter in 0..buchi.letters {
+            let (next, mark) = step(alloc, &buchi, &list, letter, &mut steps)?;
+            let target = trees.number(&next)?;
+            edges.push(Edge { target, mark })?;
+        }
+        if edges.len() > MOST_EDGES {
+            return Err(TranslateFault::TooManyStates);
+        }
+    }
+    turn(&mut edges);
+    let automaton = Automaton::of_letters(alloc, mask.count_ones(), &edges, keys)?;
+    Leaf::new(&automaton, mask)
+}
+
+/// Makes priorities of what happened, of which the least counts.
+fn turn(edges: &mut [Edge]) {
+    let mut most = 0u32;
+    for edge in edges.iter() {
+        if edge.mark != NONE {
+            most = most.max(edge.mark);
+        }
+    }
+    let most = (most / 2).saturating_mul(2).saturating_add(4);
+    for edge in edges.iter_mut() {
+        edge.mark = if edge.mark == NONE {
+            1
+        } else {
+            most.saturating_sub(edge.mark)
+        };
+    }
+}

@@ -1,0 +1,168 @@
+//! A formula as a combination of temporal formulas: those that are safety or co-safety are progressed together, and each other one becomes
+//! a leaf, an automaton of its own.
+
+use crate::breakpoints::by_breakpoints;
+use crate::fault::{Found, TranslateFault};
+use crate::leaf::Leaf;
+use crate::numbers::{NONE, Notes, count};
+use crate::pool::{FALSE, Operator, Pool, TRUE};
+use crate::progress::Progress;
+use crate::safra::by_trees;
+use std::alloc::Global;
+
+/// The leaves of a formula, and what is asked besides them.
+#[derive(Drop)]
+pub struct Skeleton {
+    pub alloc: Global,
+    pub pool: Pool,
+    pub progress: Progress,
+    pub leaves: Vec<Leaf>,
+    /// The leaf of a variable, if it has one.
+    leaf_of: Notes,
+    /// The diagrams of formulas.
+    known: Notes,
+}
+
+impl Skeleton {
+    pub fn new(pool: Pool, propositions: u32) -> Found<Skeleton> {
+        let alloc = pool.alloc;
+        Ok(Skeleton {
+            alloc,
+            pool,
+            progress: Progress::new(alloc, propositions, true)?,
+            leaves: Vec::new(alloc),
+            leaf_of: Notes::new(alloc),
+            known: Notes::new(alloc),
+        })
+    }
+
+    /// The number of the leaf of a variable, or `NONE`.
+    pub fn leaf_of(&self, variable: u32) -> u32 {
+        self.leaf_of.get(variable)
+    }
+
+    /// The diagram of a formula. Makes the leaves that it needs.
+    pub fn diagram(&mut self, f: u32) -> Found<u32> {
+        let mut stack = vec![in self.alloc; f; 1]?;
+        for _ in 0..u64::MAX {
+            let Some(g) = stack.last().copied() else {
+                break;
+            };
+            let needed = self.needed(g)?;
+            let mut is_ready = true;
+            for part in &needed {
+                if self.known.get(*part) == NONE {
+                    stack.push(*part)?;
+                    is_ready = false;
+                }
+            }
+            if is_ready {
+                let _ = stack.pop();
+                let diagram = self.joined(g, &needed)?;
+                self.known.set(g, diagram)?;
+            }
+        }
+        Ok(self.known.get(f))
+    }
+
+    /// The formulas whose diagrams that of a formula needs: its operands, or one formula that says the same.
+    fn needed(&mut self, f: u32) -> Found<Vec<u32>> {
+        if self.pool.operator(f).is_junction() {
+            return Ok(Vec::from_slice(self.alloc, self.pool.operands(f))?);
+        }
+        let facts = self.pool.facts(f);
+        let same = if facts.sigma <= 1 || facts.pi <= 1 {
+            f
+        } else {
+            self.distributed(f)?
+        };
+        let mut needed = Vec::new(self.alloc);
+        if same != f {
+            needed.push(same)?;
+        }
+        Ok(needed)
+    }
+
+    /// `X` of a junction, `G` of a conjunction and `F` of a disjunction as junctions.
+    fn distributed(&mut self, f: u32) -> Found<u32> {
+        let operator = self.pool.operator(f);
+        let operands = Vec::from_slice(self.alloc, self.pool.operands(f))?;
+        let Some(inner) = operands.last().copied() else {
+            return Ok(f);
+        };
+        let junction = self.pool.operator(inner);
+        let fits = match (operator, operands.as_slice()) {
+            (Operator::Next, _) => junction.is_junction(),
+            (Operator::Release, [FALSE, _]) => junction == Operator::All,
+            (Operator::Until, [TRUE, _]) => junction == Operator::Any,
+            _ => false,
+        };
+        if !fits {
+            return Ok(f);
+        }
+        let mut parts = Vec::new(self.alloc);
+        for part in &Vec::from_slice(self.alloc, self.pool.operands(inner))? {
+            let made = match operands.as_slice() {
+                [left, _] => self.pool.make(operator, &[*left, *part])?,
+                _ => self.pool.make(operator, &[*part])?,
+            };
+            parts.push(made)?;
+        }
+        self.pool.join(junction, &parts)
+    }
+
+    /// The diagram of a formula, where those that it needs are known.
+    fn joined(&mut self, f: u32, needed: &[u32]) -> Found<u32> {
+        let operator = self.pool.operator(f);
+        let facts = self.pool.facts(f);
+        if operator.is_junction() {
+            let mut diagrams = Vec::new(self.alloc);
+            for part in needed {
+                diagrams.push(self.known.get(*part))?;
+            }
+            return self.progress.joined(operator, &diagrams);
+        }
+        match needed {
+            [same] => Ok(self.known.get(*same)),
+            _ if facts.sigma <= 1 || facts.pi <= 1 => self.progress.ask(&mut self.pool, f),
+            _ => self.leaf(f),
+        }
+    }
+
+    /// The diagram of a formula that is a leaf, or the negation of one.
+    fn leaf(&mut self, f: u32) -> Found<u32> {
+        let negation = self.pool.negation(f)?;
+        let facts = self.pool.facts(f);
+        let is_positive = facts.pi <= 2 || facts.sigma > 2 && f < negation;
+        let f = if is_positive { f } else { negation };
+        let diagram = self.progress.atom(&mut self.pool, f)?;
+        let variable = self.progress.bdd.top(diagram);
+        if self.leaf_of(variable) == NONE {
+            let leaf = if self.pool.facts(f).pi <= 2 {
+                by_breakpoints(&mut self.pool, f, self.progress.propositions)?
+            } else {
+                by_trees(&self.pool, f)?
+            };
+            self.leaf_of.set(variable, count(self.leaves.len()))?;
+            self.progress.fix(variable)?;
+            self.leaves.push(leaf)?;
+        }
+        if is_positive {
+            Ok(diagram)
+        } else {
+            self.progress.bdd.not(diagram)
+        }
+    }
+
+    /// Gives the leaves their colours.
+    pub fn colour(&mut self) -> Found<()> {
+        let mut colours = 0u32;
+        for leaf in self.leaves.iter_mut() {
+            colours = leaf.colour(colours);
+        }
+        if colours > 32 {
+            return Err(TranslateFault::TooManyStates);
+        }
+        Ok(())
+    }
+}

@@ -1,0 +1,235 @@
+//! Automata as text in HOA v1.
+
+use crate::automaton::{Automaton, Edge};
+use crate::fault::Found;
+use crate::lists::Lists;
+use crate::numbers::{NONE, between, count, has_bit, item, power};
+use std::alloc::Global;
+
+/// Letters that lead to the same: the propositions that are said, and which of these hold, as bits.
+#[derive(Clone, Copy)]
+struct Cube {
+    said: u32,
+    holding: u32,
+}
+
+/// A cube, and the place from which on the edges of its letters stand; so many propositions aren't parted yet.
+#[derive(Clone, Copy)]
+struct Part {
+    cube: Cube,
+    from: u32,
+    propositions: u32,
+}
+
+/// The text that is written.
+#[derive(Drop)]
+struct Writer {
+    alloc: Global,
+    text: Vec<u8>,
+}
+
+impl Writer {
+    fn word(&mut self, word: &[u8]) -> Found<()> {
+        self.text.extend_from_slice(word)?;
+        Ok(())
+    }
+
+    fn number(&mut self, number: u32) -> Found<()> {
+        let digits = format!(in self.alloc; "{number}")?;
+        self.word(digits.as_bytes())
+    }
+
+    /// A name in quotes.
+    fn quoted(&mut self, name: &[u8]) -> Found<()> {
+        self.word(b"\"")?;
+        for byte in name {
+            if *byte == b'"' || *byte == b'\\' {
+                self.word(b"\\")?;
+            }
+            self.word(&[*byte])?;
+        }
+        self.word(b"\"")
+    }
+
+    /// The condition that the greatest set that recurs is even.
+    fn condition(&mut self, sets: u32) -> Found<()> {
+        for set in (1..sets).rev() {
+            self.word(if set % 2 == 0 { b"Inf(" } else { b"Fin(" })?;
+            self.number(set)?;
+            self.word(if set % 2 == 0 { b") | (" } else { b") & (" })?;
+        }
+        self.word(b"Inf(0)")?;
+        for _ in 1..sets {
+            self.word(b")")?;
+        }
+        Ok(())
+    }
+
+    fn head(&mut self, states: u32, names: &[Vec<u8>], sets: u32) -> Found<()> {
+        self.word(b"HOA: v1\nStates: ")?;
+        self.number(states)?;
+        self.word(b"\nStart: 0\nAP: ")?;
+        self.number(count(names.len()))?;
+        for name in names {
+            self.word(b" ")?;
+            self.quoted(name)?;
+        }
+        self.word(b"\nacc-name: parity max even ")?;
+        self.number(sets)?;
+        self.word(b"\nAcceptance: ")?;
+        self.number(sets)?;
+        self.word(b" ")?;
+        self.condition(sets)?;
+        self.word(
+            b"\nproperties: trans-labels explicit-labels trans-acc colored deterministic\n--BODY--\n",
+        )
+    }
+
+    fn cube(&mut self, cube: Cube) -> Found<()> {
+        if cube.said == 0 {
+            return self.word(b"t");
+        }
+        let mut is_first = true;
+        for proposition in 0..32 {
+            if !has_bit(cube.said, proposition) {
+                continue;
+            }
+            if !is_first {
+                self.word(b"&")?;
+            }
+            is_first = false;
+            if !has_bit(cube.holding, proposition) {
+                self.word(b"!")?;
+            }
+            self.number(proposition)?;
+        }
+        Ok(())
+    }
+
+    /// An edge, for the cubes with its number.
+    fn edge(&mut self, cubes: &[(u32, Cube)], number: u32, edge: &[u32]) -> Found<()> {
+        let mut is_first = true;
+        for (other, cube) in cubes {
+            if *other == number {
+                self.word(if is_first { b"[" } else { b" | " })?;
+                is_first = false;
+                self.cube(*cube)?;
+            }
+        }
+        if let [target, priority] = edge {
+            self.word(b"] ")?;
+            self.number(*target)?;
+            self.word(b" {")?;
+            self.number(*priority)?;
+            self.word(b"}\n")?;
+        }
+        Ok(())
+    }
+}
+
+/// The cubes of the edges of a state, which are given letter by letter, with the numbers of these edges.
+fn cubes(
+    alloc: Global,
+    row: &[Edge],
+    propositions: u32,
+    edges: &mut Lists,
+) -> Found<Vec<(u32, Cube)>> {
+    let mut found = Vec::new(alloc);
+    let whole = Part {
+        cube: Cube {
+            said: 0,
+            holding: 0,
+        },
+        from: 0,
+        propositions,
+    };
+    let mut parts = vec![in alloc; whole; 1]?;
+    for _ in 0..u64::MAX {
+        let Some(part) = parts.pop() else {
+            break;
+        };
+        let end = part.from.saturating_add(power(part.propositions));
+        let first = item(row, part.from, Edge::NONE);
+        if part.propositions == 0
+            || between(row, part.from, end)
+                .iter()
+                .all(|edge| *edge == first)
+        {
+            let number = edges.number(&[first.target, first.mark])?;
+            found.push((number, part.cube))?;
+            continue;
+        }
+        let bit = power(part.propositions.wrapping_sub(1));
+        let middle = part.from.saturating_add(bit);
+        let mut low = part;
+        low.propositions = part.propositions.wrapping_sub(1);
+        if between(row, part.from, middle) != between(row, middle, end) {
+            low.cube.said |= bit;
+            let mut high = low;
+            high.cube.holding |= bit;
+            high.from = middle;
+            parts.push(high)?;
+        }
+        parts.push(low)?;
+    }
+    Ok(found)
+}
+
+/// The text of an automaton. A state that accepts nothing is left out, if it isn't the first one.
+pub fn text_of(automaton: &Automaton, names: &[Vec<u8>]) -> Found<Vec<u8>> {
+    let alloc = automaton.alloc;
+    let mut sink = NONE;
+    for state in 1..automaton.len() {
+        if automaton.is_sink(state, false) {
+            sink = state;
+        }
+    }
+    let states = automaton.len().saturating_sub((sink != NONE) as u32);
+    let mut writer = Writer {
+        alloc,
+        text: Vec::new(alloc),
+    };
+    let sets = automaton.greatest_priority().saturating_add(1);
+    writer.head(states, names, sets)?;
+    for state in 0..automaton.len() {
+        if state != sink {
+            write_state(&mut writer, automaton, state, sink, count(names.len()))?;
+        }
+    }
+    writer.word(b"--END--\n")?;
+    Ok(writer.text)
+}
+
+/// The number of a state in the text.
+fn number_in_text(state: u32, sink: u32) -> u32 {
+    if state > sink { state - 1 } else { state }
+}
+
+/// Writes a state, and its edges to other states than the one that is left out.
+fn write_state(
+    writer: &mut Writer,
+    automaton: &Automaton,
+    state: u32,
+    sink: u32,
+    propositions: u32,
+) -> Found<()> {
+    let alloc = automaton.alloc;
+    writer.word(b"State: ")?;
+    writer.number(number_in_text(state, sink))?;
+    writer.word(b"\n")?;
+    let mut row = Vec::new(alloc);
+    for letter in 0..automaton.classes.letters() {
+        row.push(automaton.step(state, letter))?;
+    }
+    let mut edges = Lists::new(alloc);
+    let cubes = cubes(alloc, &row, propositions, &mut edges)?;
+    for number in 0..edges.len() {
+        let [target, priority] = *edges.list(number) else {
+            break;
+        };
+        if target != sink {
+            writer.edge(&cubes, number, &[number_in_text(target, sink), priority])?;
+        }
+    }
+    Ok(())
+}

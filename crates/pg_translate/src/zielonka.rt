@@ -1,0 +1,208 @@
+//! Zielonka trees (Theoretical Computer Science 200, 1998) of conditions over colours, and the parity automata that remember a leaf of one.
+
+use crate::bdd::ALWAYS;
+use crate::fault::{Found, TranslateFault};
+use crate::numbers::{NONE, at, count, power, spend};
+use crate::skeleton::Skeleton;
+use std::alloc::Global;
+
+/// So many sets of colours may be looked at for a tree.
+const STEPS: u64 = 1 << 22;
+
+/// A tree may have so many nodes.
+const MOST_NODES: usize = 1 << 17;
+
+/// Which sets of colours that recur are accepted: a diagram over leaves.
+#[derive(Clone, Copy)]
+pub struct Condition<'a> {
+    pub skeleton: &'a Skeleton,
+    pub diagram: u32,
+}
+
+impl Condition<'_> {
+    fn accepts(&self, colours: u32) -> bool {
+        let bdd = &self.skeleton.progress.bdd;
+        let mut f = self.diagram;
+        for _ in 0..u32::MAX {
+            let variable = bdd.top(f);
+            if variable == NONE {
+                break;
+            }
+            let (low, high) = bdd.halves(f);
+            let number = self.skeleton.leaf_of(variable);
+            f = match self.skeleton.leaves.get(number as usize) {
+                Some(leaf) if leaf.accepts(colours) => high,
+                _ => low,
+            };
+        }
+        f == ALWAYS
+    }
+}
+
+/// A set of colours. Its children are the greatest subsets that are accepted if it isn't, or the other way round.
+#[derive(Drop)]
+struct Node {
+    colours: u32,
+    children: Vec<u32>,
+    parent: u32,
+    depth: u32,
+}
+
+/// The leaf behind a climb, and its priority: the less, the lower the node that is come to.
+#[derive(Clone, Copy)]
+pub struct Climb {
+    pub next: u32,
+    pub priority: u32,
+}
+
+/// A tree; its root is node 0.
+#[derive(Drop)]
+pub struct Tree {
+    nodes: Vec<Node>,
+    /// The priority of the root.
+    greatest: u32,
+}
+
+/// Whether a set is part of one of these.
+fn is_within_any(set: u32, others: &[u32]) -> bool {
+    others.iter().any(|other| set & !*other == 0)
+}
+
+/// The greatest subsets of a set with the other value, where the fixed colours aren't left out.
+fn alternatives(
+    alloc: Global,
+    condition: &Condition,
+    set: u32,
+    fixed: u32,
+    steps: &mut u64,
+) -> Found<Vec<u32>> {
+    let value = condition.accepts(set);
+    let mut found: Vec<u32> = Vec::new(alloc);
+    let mut layer = vec![in alloc; set; 1]?;
+    for _ in 0..=32 {
+        let mut next = Vec::new(alloc);
+        for larger in &layer {
+            for colour in 0..32 {
+                let subset = larger & !power(colour);
+                let is_smaller = subset != *larger && fixed & power(colour) == 0;
+                if !is_smaller || is_within_any(subset, &found) {
+                    continue;
+                }
+                spend(steps, 1)?;
+                if condition.accepts(subset) != value {
+                    found.push(subset)?;
+                } else {
+                    next.push(subset)?;
+                }
+            }
+        }
+        next.sort_unstable();
+        next.dedup();
+        next.retain(|subset| !is_within_any(*subset, &found));
+        layer = next;
+    }
+    Ok(found)
+}
+
+impl Tree {
+    /// The tree of a condition over colours, of which the fixed ones are met on each cycle.
+    pub fn new(alloc: Global, condition: &Condition, colours: u32, fixed: u32) -> Found<Tree> {
+        let mut nodes: Vec<Node> = Vec::new(alloc);
+        nodes.push(Node {
+            colours,
+            children: Vec::new(alloc),
+            parent: 0,
+            depth: 0,
+        })?;
+        let mut steps = STEPS;
+        let mut deepest = 0;
+        for place in 0..MOST_NODES {
+            let Some(node) = nodes.get(place) else {
+                break;
+            };
+            let depth = node.depth.saturating_add(1);
+            deepest = node.depth;
+            let found = alternatives(alloc, condition, node.colours, fixed, &mut steps)?;
+            let mut children = Vec::new(alloc);
+            for subset in &found {
+                children.push(count(nodes.len()))?;
+                nodes.push(Node {
+                    colours: *subset,
+                    children: Vec::new(alloc),
+                    parent: count(place),
+                    depth,
+                })?;
+            }
+            if let Some(node) = nodes.get_mut(place) {
+                node.children = children;
+            }
+        }
+        if nodes.len() > MOST_NODES {
+            return Err(TranslateFault::TooManyStates);
+        }
+        let is_odd = condition.accepts(colours) != (deepest % 2 == 0);
+        Ok(Tree {
+            nodes,
+            greatest: deepest.saturating_add(is_odd as u32),
+        })
+    }
+
+    fn children(&self, node: u32) -> &[u32] {
+        match self.nodes.get(node as usize) {
+            Some(node) => &node.children,
+            None => &[],
+        }
+    }
+
+    /// The first leaf below a node.
+    pub fn first_leaf(&self, node: u32) -> u32 {
+        let mut leaf = node;
+        for _ in 0..self.nodes.len() {
+            let Some(child) = self.children(leaf).first() else {
+                break;
+            };
+            leaf = *child;
+        }
+        leaf
+    }
+
+    fn depth(&self, node: u32) -> u32 {
+        match self.nodes.get(node as usize) {
+            Some(node) => node.depth,
+            None => 0,
+        }
+    }
+
+    /// The least node above a leaf that has all colours that are met.
+    pub fn climb(&self, leaf: u32, met: u32) -> Climb {
+        let all = match self.nodes.first() {
+            Some(root) => root.colours,
+            None => 0,
+        };
+        let (mut from, mut place) = (leaf, leaf);
+        for _ in 0..self.nodes.len() {
+            match self.nodes.get(place as usize) {
+                Some(node) if met & all & !node.colours != 0 => {
+                    from = place;
+                    place = node.parent;
+                }
+                _ => break,
+            }
+        }
+        let next = if from == place {
+            leaf
+        } else {
+            self.first_leaf(self.sibling(place, from))
+        };
+        let priority = self.greatest.saturating_sub(self.depth(place));
+        Climb { next, priority }
+    }
+
+    /// The child of a node behind one, or the first one behind the last.
+    fn sibling(&self, node: u32, child: u32) -> u32 {
+        let children = self.children(node);
+        let place = children.iter().position(|it| *it == child).unwrap_or(0);
+        let next = at(children, count(place).saturating_add(1));
+        if next == NONE { at(children, 0) } else { next }
+    }
+}
