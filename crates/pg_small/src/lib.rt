@@ -1,0 +1,23 @@
+//! Small circuits for an automaton whose start the controller wins, also where it moves first. Nothing is promised of what is proposed but that it is found safely
+//! and in the end: who wants to believe a circuit looks at all its runs.
+#![tactic(auto)]
+
+mod circuit;
+mod codes;
+mod freedom;
+mod game;
+mod improve;
+mod machine;
+mod making;
+mod merging;
+mod moore;
+mod net;
+mod numbers;
+mod plain;
+mod product;
+mod proposal;
+mod steps;
+
+pub use moore::propose_moore;
+pub use net::Gate;
+pub use proposal::{Proposal, propose};

@@ -1,0 +1,172 @@
+//! Literals of a net, made as they are wanted.
+
+use crate::net::{Net, flip};
+use crate::numbers::{Found, item, logarithm};
+use std::alloc::Global;
+
+/// What is wanted of a literal: true at the points of `on`, false at those of `off`.
+#[derive(Drop)]
+pub struct Want {
+    pub on: Vec<u64>,
+    pub off: Vec<u64>,
+}
+
+impl Want {
+    /// Nothing yet.
+    pub fn new(alloc: Global) -> Want {
+        Want {
+            on: Vec::new(alloc),
+            off: Vec::new(alloc),
+        }
+    }
+}
+
+/// How a literal may serve.
+#[derive(Clone, Copy, PartialEq, Eq)]
+enum Way {
+    /// Its conjunction with something else.
+    And,
+    /// The negation of such a conjunction.
+    Nand,
+    /// A choice of something where it holds, and something else where it doesn't.
+    Choose,
+    /// As it is.
+    Alone,
+}
+
+/// A literal that serves in a way, and how much it tells for a gate.
+#[derive(Clone, Copy)]
+struct Candidate {
+    literal: u32,
+    way: Way,
+    gain: u32,
+}
+
+/// How many ones two lists share, of which the second is flipped.
+fn shared(words: &[u64], others: &[u64], flip: u64) -> u32 {
+    let mut many = 0u32;
+    for (word, other) in words.iter().zip(others) {
+        many = many.saturating_add((*word & (*other ^ flip)).count_ones());
+    }
+    many
+}
+
+impl Net {
+    /// A literal as wanted, of at most `most` new gates, if that is found.
+    #[cycle(making)]
+    pub fn make(&mut self, want: &Want, most: u32) -> Found<Option<u32>> {
+        let on = shared(&want.on, &want.on, 0);
+        let off = shared(&want.off, &want.off, 0);
+        if on == 0 || off == 0 {
+            return Ok(Some((on != 0) as u32));
+        }
+        self.look(self.len().saturating_mul(2));
+        let mut best: Option<Candidate> = None;
+        for signal in 0..self.len() {
+            if item(&self.barred, signal, true) {
+                continue;
+            }
+            let it = self.see(signal, want, (on, off));
+            if it.way == Way::Alone {
+                return Ok(Some(it.literal));
+            }
+            if it.gain > best.map_or(0, |other| other.gain) {
+                best = Some(it);
+            }
+        }
+        match best {
+            Some(best) if most > 0 && self.looks > 0 => self.make_by(best, want, most),
+            _ => Ok(None),
+        }
+    }
+
+    /// The same by a literal.
+    #[cycle(making)]
+    fn make_by(&mut self, best: Candidate, want: &Want, most: u32) -> Found<Option<u32>> {
+        let Candidate { literal, way, .. } = best;
+        let cost = if way == Way::Choose { 3 } else { 1 };
+        if most == 0 || most < cost {
+            return Ok(None);
+        }
+        let mark = self.len();
+        let rest = self.rest(want, way, literal)?;
+        let Some(then) = self.make(&rest, (most - cost).min(most - 1))? else {
+            return Ok(None);
+        };
+        if way != Way::Choose {
+            let negated = (way == Way::Nand) as u32;
+            return Ok(Some(self.and(literal, then ^ negated)? ^ negated));
+        }
+        let used = self.len().saturating_sub(mark).saturating_add(3);
+        let rest = self.rest(want, way, literal ^ 1)?;
+        let Some(other) = self.make(&rest, most.saturating_sub(used).min(most - 1))? else {
+            return Ok(None);
+        };
+        let one = self.and(literal, then)?;
+        let two = self.and(literal ^ 1, other)?;
+        Ok(Some(self.and(one ^ 1, two ^ 1)? ^ 1))
+    }
+
+    /// The values of a literal as what is wanted.
+    pub fn want_of(&self, literal: u32) -> Found<Want> {
+        let mut want = Want::new(self.alloc);
+        for word in self.values(literal / 2) {
+            want.on.push(*word ^ flip(literal))?;
+            want.off.push(!*word ^ flip(literal))?;
+        }
+        Ok(want)
+    }
+
+    /// What is wanted besides a literal.
+    fn rest(&self, want: &Want, way: Way, literal: u32) -> Found<Want> {
+        let mut rest = Want::new(self.alloc);
+        let wants = want.on.iter().zip(&want.off);
+        for (word, (on, off)) in self.values(literal / 2).iter().zip(wants) {
+            let word = *word ^ flip(literal);
+            rest.on
+                .push(if way == Way::And { *on } else { *on & word })?;
+            rest.off
+                .push(if way == Way::Nand { *off } else { *off & word })?;
+        }
+        Ok(rest)
+    }
+
+    /// Looks at a signal, where something is wanted at so many points.
+    fn see(&self, signal: u32, want: &Want, (on, off): (u32, u32)) -> Candidate {
+        let values = self.values(signal);
+        let (mut on_one, mut on_zero, mut off_one, mut off_zero) = (0u64, 0u64, 0u64, 0u64);
+        for ((word, on), off) in values.iter().zip(&want.on).zip(&want.off) {
+            on_one |= *word & *on;
+            on_zero |= !*word & *on;
+            off_one |= *word & *off;
+            off_zero |= !*word & *off;
+        }
+        let literal = signal.saturating_mul(2);
+        let (literal, way) = match (on_zero, off_one, on_one, off_zero) {
+            (0, 0, _, _) => (literal, Way::Alone),
+            (_, _, 0, 0) => (literal | 1, Way::Alone),
+            (0, _, _, _) => (literal, Way::And),
+            (_, _, 0, _) => (literal | 1, Way::And),
+            (_, 0, _, _) => (literal | 1, Way::Nand),
+            (_, _, _, 0) => (literal, Way::Nand),
+            _ => (literal, Way::Choose),
+        };
+        let on_true = shared(&want.on, values, flip(literal));
+        let off_true = shared(&want.off, values, flip(literal));
+        let on_false = on.saturating_sub(on_true);
+        let off_false = off.saturating_sub(off_true);
+        let mut left = pairs(on_true, off_true);
+        let mut cost = 1;
+        if way == Way::Choose {
+            left = left.saturating_add(pairs(on_false, off_false));
+            cost = if signal < self.given { 3 } else { u32::MAX };
+        }
+        let gain = logarithm(pairs(on, off)).saturating_sub(logarithm(left)) / cost;
+        Candidate { literal, way, gain }
+    }
+}
+
+/// How many pairs of a point of `on` and one of `off` there are, of so many.
+fn pairs(on: u32, off: u32) -> u64 {
+    (on as u64).saturating_mul(off as u64).saturating_mul(256)
+}

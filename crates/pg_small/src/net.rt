@@ -1,0 +1,254 @@
+//! Nets of conjunctions over signals whose values are known at every point that can come up. Two signals that agree at all points are
+//! one, whatever they would be elsewhere.
+
+use crate::numbers::{Found, NONE, at, count, item, put};
+use std::alloc::Global;
+
+/// A conjunction of two literals: a literal is twice a variable, plus one where it is negated.
+#[derive(Clone, Copy)]
+pub struct Gate {
+    pub left: u32,
+    pub right: u32,
+}
+
+/// How many places there are for signals at first: a power of two.
+const FIRST_PLACES: usize = 64;
+
+/// Signal 0 is false; then come those that are given, and then gates.
+#[derive(Drop)]
+pub struct Net {
+    pub alloc: Global,
+    /// How many words hold the values of a signal.
+    pub words: u32,
+    /// How many signals are no gates.
+    pub given: u32,
+    gates: Vec<Gate>,
+    /// The values of all signals.
+    pub values: Vec<u64>,
+    /// Signals by their values: each stands at the place that these tell, or behind it, and those of the same values in their order.
+    places: Vec<u32>,
+    /// Signals that may not be used.
+    pub barred: Vec<bool>,
+    /// How many words may still be looked at.
+    pub looks: u64,
+}
+
+/// A word of ones for a literal that is negated, and else of zeros.
+pub fn flip(literal: u32) -> u64 {
+    0u64.wrapping_sub((literal & 1) as u64)
+}
+
+/// A word of a literal.
+pub fn word_of(values: &[u64], literal: u32, word: u32, words: u32) -> u64 {
+    let place = (literal / 2).saturating_mul(words).saturating_add(word);
+    item(values, place, 0) ^ flip(literal)
+}
+
+impl Net {
+    /// The net of signals that are given by their values, signal after signal; those of signal 0 are zeros.
+    pub fn new(alloc: Global, words: u32, given: &[u64], looks: u64) -> Found<Net> {
+        let mut net = Net {
+            alloc,
+            words,
+            given: 0,
+            gates: Vec::new(alloc),
+            values: Vec::from_slice(alloc, given)?,
+            places: vec![in alloc; NONE; FIRST_PLACES]?,
+            barred: Vec::new(alloc),
+            looks,
+        };
+        for _ in given.chunks(words.max(1) as usize) {
+            net.add(Gate { left: 0, right: 0 })?;
+        }
+        net.given = net.len();
+        Ok(net)
+    }
+
+    /// How many signals there are.
+    pub fn len(&self) -> u32 {
+        count(self.gates.len())
+    }
+
+    pub fn gate(&self, signal: u32) -> Gate {
+        item(&self.gates, signal, Gate { left: 0, right: 0 })
+    }
+
+    /// The values of a signal.
+    pub fn values(&self, signal: u32) -> &[u64] {
+        let words = self.words as usize;
+        let from = (signal as usize)
+            .saturating_mul(words)
+            .min(self.values.len());
+        let to = from.saturating_add(words).min(self.values.len());
+        &self.values[from..to]
+    }
+
+    /// Takes signals that were looked at from those that may be.
+    pub fn look(&mut self, signals: u32) {
+        let words = (signals as u64).saturating_mul(self.words as u64);
+        self.looks = self.looks.saturating_sub(words);
+    }
+
+    /// Takes the last signals back, so that so many stay.
+    pub fn cut(&mut self, len: u32) {
+        for signal in (len..self.len()).rev() {
+            let place = self.place(self.values(signal), |other| other == signal);
+            put(&mut self.places, place, NONE);
+        }
+        self.gates.truncate(len as usize);
+        self.barred.truncate(len as usize);
+        let words = (len as usize).saturating_mul(self.words as usize);
+        self.values.truncate(words);
+    }
+
+    /// Adds a signal whose values are there.
+    fn add(&mut self, gate: Gate) -> Found<()> {
+        let signal = self.len();
+        self.gates.push(gate)?;
+        self.barred.push(false)?;
+        if self.gates.len() <= self.places.len() / 2 {
+            self.enter(signal);
+            return Ok(());
+        }
+        let many = self.places.len().saturating_mul(2);
+        self.places.clear();
+        self.places.resize(many, NONE)?;
+        for signal in 0..self.len() {
+            self.enter(signal);
+        }
+        Ok(())
+    }
+
+    /// Puts a signal at its place.
+    fn enter(&mut self, signal: u32) {
+        let place = self.place(self.values(signal), |_| false);
+        put(&mut self.places, place, signal);
+    }
+
+    /// The place of the first signal that is wanted, among those which may have these values or their negation; else the first free one.
+    fn place<F: Fn(u32) -> bool>(&self, values: &[u64], is_wanted: F) -> u32
+        requires { F.IsAlwaysCallable is_wanted }
+    {
+        let turn = flip((item(values, 0, 0) & 1) as u32);
+        let mut mixed = 0u64;
+        for word in values {
+            mixed = (mixed ^ *word ^ turn).wrapping_mul(0x9e37_79b9_7f4a_7c15);
+            mixed ^= mixed >> 29;
+        }
+        let mask = count(self.places.len()).saturating_sub(1);
+        let mut place = (mixed >> 32) as u32 & mask;
+        for _ in 0..self.places.len() {
+            let signal = at(&self.places, place);
+            if signal == NONE || is_wanted(signal) {
+                break;
+            }
+            place = place.wrapping_add(1) & mask;
+        }
+        place
+    }
+
+    /// A literal that may be used and has the values that are last, of which no signal is made yet; or `NONE`.
+    fn find(&self) -> u32 {
+        let values = self.values(self.len());
+        let flips = |signal: u32| {
+            let others = self.values(signal);
+            ((item(values, 0, 0) ^ item(others, 0, 0)) & 1) as u32
+        };
+        let place = self.place(values, |signal| {
+            let turn = flip(flips(signal));
+            let mut pairs = values.iter().zip(self.values(signal));
+            !item(&self.barred, signal, true) && pairs.all(|(word, other)| *word ^ *other == turn)
+        });
+        match at(&self.places, place) {
+            NONE => NONE,
+            signal => signal.saturating_mul(2) | flips(signal),
+        }
+    }
+
+    /// The conjunction of two literals.
+    pub fn and(&mut self, x: u32, y: u32) -> Found<u32> {
+        for word in 0..self.words {
+            let left = word_of(&self.values, x, word, self.words);
+            let right = word_of(&self.values, y, word, self.words);
+            self.values.push(left & right)?;
+        }
+        self.look(2);
+        let (signal, known) = (self.len(), self.find());
+        if known != NONE {
+            self.cut(signal);
+            return Ok(known);
+        }
+        let (left, right) = (x.max(y), x.min(y));
+        self.add(Gate { left, right })?;
+        Ok(signal.saturating_mul(2))
+    }
+
+    /// The gates but one: those that are not behind it, and then those that are.
+    fn order(&self, signal: u32, behind: &[bool]) -> Found<Vec<u32>> {
+        let mut order = Vec::new(self.alloc);
+        for is_behind in [false, true] {
+            for other in self.given..self.len() {
+                if item(behind, other, false) == is_behind && other != signal {
+                    order.push(other)?;
+                }
+            }
+        }
+        Ok(order)
+    }
+
+    /// Which signals literals need, and all that are given, where a literal takes the place of a signal.
+    pub fn needed(&self, literals: &[u32], swap: (u32, u32), behind: &[bool]) -> Found<Vec<bool>> {
+        let mut needed = vec![in self.alloc; true; self.given as usize]?;
+        needed.resize(self.gates.len(), false)?;
+        for literal in literals {
+            put(&mut needed, instead(swap, *literal) / 2, true);
+        }
+        for other in self.order(swap.0, behind)?.iter().rev() {
+            if item(&needed, *other, false) {
+                let gate = self.gate(*other);
+                put(&mut needed, instead(swap, gate.left) / 2, true);
+                put(&mut needed, instead(swap, gate.right) / 2, true);
+            }
+        }
+        Ok(needed)
+    }
+
+    /// What literals need, and nothing else, where a literal takes the place of a signal; they become literals of that net. Signals behind
+    /// the one that is replaced are marked, and the literal is none of these.
+    pub fn rebuilt(&self, literals: &mut [u32], swap: (u32, u32), behind: &[bool]) -> Found<Net> {
+        let needed = self.needed(literals, swap, behind)?;
+        let words = (self.given as usize).saturating_mul(self.words as usize);
+        let given = &self.values[..words.min(self.values.len())];
+        let mut net = Net::new(self.alloc, self.words, given, self.looks)?;
+        let mut map = Vec::new(self.alloc);
+        for signal in 0..self.len() {
+            map.push(signal.saturating_mul(2))?;
+        }
+        for other in &self.order(swap.0, behind)? {
+            if item(&needed, *other, false) {
+                let gate = self.gate(*other);
+                let left = image(&map, instead(swap, gate.left));
+                let right = image(&map, instead(swap, gate.right));
+                put(&mut map, *other, net.and(left, right)?);
+            }
+        }
+        for literal in literals.iter_mut() {
+            *literal = image(&map, instead(swap, *literal));
+        }
+        Ok(net)
+    }
+}
+
+/// What stands in place of a literal, where a literal takes the place of a signal.
+fn instead(swap: (u32, u32), literal: u32) -> u32 {
+    if literal / 2 == swap.0 {
+        swap.1 ^ (literal & 1)
+    } else {
+        literal
+    }
+}
+
+/// The literal of another net.
+fn image(map: &[u32], literal: u32) -> u32 {
+    at(map, literal / 2) ^ (literal & 1)
+}

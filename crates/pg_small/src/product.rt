@@ -1,0 +1,107 @@
+//! The product of a machine and an automaton: pairs of states that are met together.
+
+use crate::machine::{Machine, points};
+use crate::numbers::{Found, NONE, at, count, put, spend};
+use crate::steps::{Step, Steps};
+use pg_search_components::Rows;
+use std::alloc::Global;
+
+/// How many pairs there may be numbers for.
+const MAX_PAIRS: u64 = 1 << 20;
+
+/// Pairs are numbered as they are met.
+#[derive(Drop)]
+pub struct Product {
+    /// Of each pair the machine's state, and the automaton's.
+    pub states: Vec<u32>,
+    pub besides: Vec<u32>,
+    /// The number of each pair, or `NONE`.
+    numbers: Vec<u32>,
+    width: u32,
+}
+
+impl Product {
+    /// The product of a machine; none where the automaton has no edge for a step, or that takes too long, as with too many pairs.
+    pub fn of(machine: &Machine, steps: &Steps, looks: &mut u64) -> Found<Option<Product>> {
+        let many = (machine.states as u64).saturating_mul(steps.states as u64);
+        if many > MAX_PAIRS || !spend(looks, many / 16) {
+            *looks = 0;
+            return Ok(None);
+        }
+        let mut product = Product {
+            states: Vec::new(steps.alloc),
+            besides: Vec::new(steps.alloc),
+            numbers: vec![in steps.alloc; NONE; many as usize]?,
+            width: steps.states,
+        };
+        product.meet(0, steps.start)?;
+        for place in 0..u32::MAX {
+            let state = at(&product.states, place);
+            if state == NONE {
+                break;
+            }
+            for point in points(state, machine.inputs) {
+                let step = machine.step(steps, at(&product.besides, place), point);
+                if step.target == NONE || !spend(looks, 1) {
+                    return Ok(None);
+                }
+                product.meet(at(&machine.nexts, point), step.target)?;
+            }
+        }
+        Ok(Some(product))
+    }
+
+    /// The number of a pair, or `NONE`.
+    pub fn number(&self, state: u32, beside: u32) -> u32 {
+        at(
+            &self.numbers,
+            state.wrapping_mul(self.width).wrapping_add(beside),
+        )
+    }
+
+    /// Meets a pair, which may be known.
+    fn meet(&mut self, state: u32, beside: u32) -> Found<()> {
+        if self.number(state, beside) == NONE {
+            let place = state.wrapping_mul(self.width).wrapping_add(beside);
+            put(&mut self.numbers, place, count(self.states.len()));
+            self.states.push(state)?;
+            self.besides.push(beside)?;
+        }
+        Ok(())
+    }
+
+    /// All runs, as steps from pair to pair with nothing to answer.
+    pub fn steps(&self, machine: &Machine, steps: &Steps) -> Found<Steps> {
+        let mut table = Vec::new(steps.alloc);
+        for (state, beside) in self.states.iter().zip(&self.besides) {
+            for point in points(*state, machine.inputs) {
+                let step = machine.step(steps, *beside, point);
+                let target = self.number(at(&machine.nexts, point), step.target);
+                let priority = step.priority;
+                table.push(Step { target, priority })?;
+            }
+        }
+        Ok(Steps {
+            alloc: steps.alloc,
+            states: count(self.states.len()),
+            start: 0,
+            inputs: steps.inputs,
+            outputs: 0,
+            table,
+        })
+    }
+}
+
+/// The places of each number below another one in a list.
+pub fn places_of(alloc: Global, numbers: &[u32], many: u32) -> Found<Rows> {
+    let mut rows = Rows::with_capacity(alloc, 0)?;
+    rows.clear(many)?;
+    for number in numbers {
+        rows.count(*number);
+    }
+    rows.make_room()?;
+    for place in (0..count(numbers.len())).rev() {
+        rows.put(at(numbers, place), place);
+    }
+    Ok(rows)
+}
