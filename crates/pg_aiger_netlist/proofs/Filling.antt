@@ -56,6 +56,22 @@ latch_step circuit bits first lines k w row now ac e l many lt same is_now are =
         ∙ ap known_by (sym (append_assoc circuit.inputs (map Latch.literal (take k lines)) (here.literal ∷ [])))
         ∙ known_more (circuit.inputs ++ map Latch.literal (take k lines)) here.literal
 
+-- what is known behind a gate more
+pub known_next : (circuit : Circuit) (ordered : List Gate) (k : ℕ) (d : Gate) → k < length ordered
+    → known_by (sources circuit) ++ map variable_of (take (k + 1) ordered)
+    ≡ (known_by (sources circuit) ++ map variable_of (take k ordered)) ++ variable_of (get_or ordered k d) ∷ []
+known_next circuit ordered k d l =
+    ap (λ gs. known_by (sources circuit) ++ map variable_of gs) (take_more ordered k d l)
+    ∙ ap (λ xs. known_by (sources circuit) ++ xs) (map-append variable_of (take k ordered) (get_or ordered k d ∷ []))
+    ∙ sym (append_assoc (known_by (sources circuit)) (map variable_of (take k ordered)) (variable_of (get_or ordered k d) ∷ []))
+
+pub used_known : (circuit : Circuit) (ordered : List Gate) (k : ℕ) (d : Gate) → IsOrder circuit ordered → k < length ordered
+    → (x : ℕ) → IsUsedBy (get_or ordered k d) x → Contains (known_by (sources circuit) ++ map variable_of (take k ordered)) x
+used_known circuit ordered k d order l x u = elim (ordered_at ordered (known_by (sources circuit)) k d x order.in_order l u) [
+  | inl c ↦ Contains-append_left (known_by (sources circuit)) (map variable_of (take k ordered)) x c
+  | inr c ↦ Contains-append_right (known_by (sources circuit)) (map variable_of (take k ordered)) x c
+]
+
 pub gate_step : (circuit : Circuit) (state first : ℕ) (ordered : List Gate) (k w : ℕ) (row : List ℕ) → IsAcyclic circuit → IsOrder circuit ordered
     → k < length ordered → variable_of (get_or ordered k (record { lhs = 0; rhs0 = 0; rhs1 = 0 })) < length row
     → ((lane : ℕ) → lane < 64 → bit w lane ≡ (lane_value row lane (get_or ordered k (record { lhs = 0; rhs0 = 0; rhs1 = 0 })).rhs0
@@ -64,27 +80,22 @@ pub gate_step : (circuit : Circuit) (state first : ℕ) (ordered : List Gate) (k
     → AreWords circuit state first (known_by (sources circuit) ++ map variable_of (take (k + 1) ordered))
     (set row (variable_of (get_or ordered k (record { lhs = 0; rhs0 = 0; rhs1 = 0 }))) w)
 gate_step circuit state first ordered k w row ac order l lt same are =
-    subst (λ known. AreWords circuit state first known (set row (variable_of g) w)) (sym more)
+    subst (λ known. AreWords circuit state first known (set row (variable_of g) w)) (sym (known_next circuit ordered k no_gate l))
     (word_set circuit state first known row (variable_of g) w are lt
-    (gate_right circuit state first known row g w ac ((order.same g).0 (Contains-get_or ordered k (record { lhs = 0; rhs0 = 0; rhs1 = 0 }) l)) are
+    (gate_right circuit state first known row g w ac ((order.same g).0 (Contains-get_or ordered k no_gate l)) are
     (there (variable g.rhs0) (inl refl)) (there (variable g.rhs1) (inr refl)) same))
   where
+    no_gate : Gate
+    no_gate = record { lhs = 0; rhs0 = 0; rhs1 = 0 }
+
     g : Gate
-    g = get_or ordered k (record { lhs = 0; rhs0 = 0; rhs1 = 0 })
+    g = get_or ordered k no_gate
 
     known : List ℕ
     known = known_by (sources circuit) ++ map variable_of (take k ordered)
 
     there : (x : ℕ) → IsUsedBy g x → Contains known x
-    there x u = elim (ordered_at ordered (known_by (sources circuit)) k (record { lhs = 0; rhs0 = 0; rhs1 = 0 }) x order.in_order l u) [
-      | inl c ↦ Contains-append_left (known_by (sources circuit)) (map variable_of (take k ordered)) x c
-      | inr c ↦ Contains-append_right (known_by (sources circuit)) (map variable_of (take k ordered)) x c
-    ]
-
-    more : known_by (sources circuit) ++ map variable_of (take (k + 1) ordered) ≡ known ++ variable_of g ∷ []
-    more = ap (λ gs. known_by (sources circuit) ++ map variable_of gs) (take_more ordered k (record { lhs = 0; rhs0 = 0; rhs1 = 0 }) l)
-        ∙ ap (λ xs. known_by (sources circuit) ++ xs) (map-append variable_of (take k ordered) (g ∷ []))
-        ∙ sym (append_assoc (known_by (sources circuit)) (map variable_of (take k ordered)) (variable_of g ∷ []))
+    there = used_known circuit ordered k no_gate order l
 
 -- a lane of an input's word
 pub lane_set : (word lane : ℕ) → lane < 64 → bit (bit_or word (1 * 2 ^ lane % 2 ^ 64)) lane ≡ true

@@ -78,16 +78,20 @@ gates_within circuit ordered n ac order e j d l = record {
     there : Contains circuit.gates g
     there = (order.same g).0 (Contains-get_or ordered j d l)
 
+-- in order all that is defined is known
+pub all_known : (circuit : Circuit) (ordered : List Gate) (x : ℕ) → IsOrder circuit ordered → Contains (known_by (definitions circuit)) x
+    → Contains (known_by (sources circuit) ++ map variable_of ordered) x
+all_known circuit ordered x order c = elim (defined_cases circuit x c) [
+  | inl s ↦ Contains-append_left (known_by (sources circuit)) (map variable_of ordered) x s
+  | inr h ↦ Contains-append_right (known_by (sources circuit)) (map variable_of ordered) x
+      (subst (Contains (map variable_of ordered)) h.2 (member_mapped variable_of ordered h.0 ((order.same h.0).1 h.1)))
+]
+
 -- the words of all that is known are the values of the steps
 pub step_done : (circuit : Circuit) (ordered : List Gate) (state first : ℕ) (words : List ℕ) → IsOrder circuit ordered
     → AreWords circuit state first (known_by (sources circuit) ++ map variable_of ordered) words
     → (lane : ℕ) → lane < 64 → AreValues circuit state (first + lane) lane words
-step_done circuit ordered state first words order are lane l v is x c =
-    are x (elim (defined_cases circuit x c) [
-      | inl s ↦ Contains-append_left (known_by (sources circuit)) (map variable_of ordered) x s
-      | inr h ↦ Contains-append_right (known_by (sources circuit)) (map variable_of ordered) x
-          (subst (Contains (map variable_of ordered)) h.2 (member_mapped variable_of ordered h.0 ((order.same h.0).1 h.1)))
-    ]) lane v l is
+step_done circuit ordered state first words order are lane l v is x c = are x (all_known circuit ordered x order c) lane v l is
 
 -- a literal that is used has its value in the lane
 pub lane_right : (circuit : Circuit) (state letter lane : ℕ) (words : List ℕ) (v : Valuation) (l : ℕ) → AreValues circuit state letter lane words

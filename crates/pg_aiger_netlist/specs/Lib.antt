@@ -1,4 +1,5 @@
 pub mod Netlists
 pub mod Steps
+pub mod Hearing
 pub mod Laws
 pub mod Mirrors

@@ -2,3 +2,4 @@
 pub mod Views
 pub mod Marks
 pub mod Lanes
+pub mod Hearing

@@ -1,4 +1,4 @@
-//! Why lists are no circuit without a cycle.
+//! Why lists make no circuit without a cycle.
 
 ghost use Rattle.std.specs.Prelude.{◌≡◌};
 ghost use Rattle.pg_aiger_netlist.specs.declared.fault.NetlistFault.TheVariants.{OutOfMemory};
@@ -6,13 +6,13 @@ ghost use Rattle.pg_aiger_netlist.specs.declared.fault.NetlistFault.TheVariants.
 use std::alloc::{AllocError, AllocFailed};
 use thiserror::Error;
 
-/// Why there is no netlist.
+/// Why lists make no netlist.
 #[derive(Clone, Copy, Debug, PartialEq, Eq, Error)]
 pub enum NetlistFault {
     /// A growth was refused.
     #[error("out of memory")]
     OutOfMemory,
-    /// This literal of an input, a latch or a gate is negated, constant, or of a variable above the greatest.
+    /// The literal of an input, a latch or a gate is negated, constant, or of a variable above the greatest.
     #[error("literal {0} defines no variable")]
     NotAVariable(u32),
     /// Inputs, latches and gates define this variable more than once.
@@ -21,7 +21,7 @@ pub enum NetlistFault {
     /// A gate, a latch or an output uses this variable, and nothing defines it.
     #[error("variable {0} is used and not defined")]
     Undefined(u32),
-    /// The gate of this variable waits for itself.
+    /// The gate of this variable depends on itself.
     #[error("the gate of variable {0} stands in a cycle")]
     Cycle(u32),
 }

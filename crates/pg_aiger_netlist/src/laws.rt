@@ -1,4 +1,4 @@
-//! Laws over the definitions. Their functions take no memory and do nothing: their contracts are what they are for.
+//! Laws that follow from the definitions. Each function states one in its contract, and does nothing.
 
 ghost use Rattle.pg_aiger_netlist.specs.Laws.{OneRun};
 

@@ -1,11 +1,13 @@
-//! Circuits of gates and latches in the AIGER format, as any tool may write them: gates in any order that has no cycle.
+//! Circuits of gates and latches in the AIGER format, from any tool: the gates may be in any order that has no cycle.
 #![tactic(auto)]
 
 mod fault;
+mod hearing;
 pub mod laws;
 mod marks;
 mod netlist;
 mod order;
+mod plain;
 mod propose;
 mod step;
 

@@ -35,11 +35,11 @@ impl Model for Netlist {
 }
 
 impl Netlist {
-    /// The circuit of these lists, if it has no cycle. The order of the inputs and of the outputs is what it was; the gates may stand
-    /// in any order.
+    /// Makes a circuit of these lists, if it has no cycle. Inputs and outputs keep their order; the gates may come in
+    /// any order.
     ///
-    /// Each fault comes only if it is so: a literal that can define no variable, a variable that is defined twice, one that is used
-    /// and not defined, gates that wait for one another, or that memory ran out. Of several faults the first in this order is told.
+    /// It returns the first of these faults: a literal can define no variable, a variable is defined twice, a variable
+    /// is used and not defined, gates depend on one another, or memory runs out.
     pub fn new(
         alloc: Global,
         greatest: u32,

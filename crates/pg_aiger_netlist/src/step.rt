@@ -125,36 +125,37 @@ fn take_latches(row: &[u64], lines: &[Latch], lane: u32, latches: &mut [bool])
 }
 
 impl Netlist {
-    /// A row for the values of all variables.
+    /// A row with room for the values of all variables. Fails only if memory runs out.
     pub fn row(&self, alloc: Global) -> Result<Vec<u64>, AllocError>
         ensures { IfOk result (λ row. length row.items ≡ self.now.greatest + 1) }
     {
         vec![in alloc; 0; self.greatest as usize + 1]
     }
 
-    /// How many inputs there are.
+    /// The number of inputs.
     pub fn inputs(&self) -> usize
         ensures { result ≡ length self.now.inputs }
     {
         self.inputs.len()
     }
 
-    /// How many latches there are.
+    /// The number of latches.
     pub fn latches(&self) -> usize
-        ensures { result ≡ length self.now.latches }
+        ensures count { result ≡ length self.now.latches }
+        ensures acyclic { IsAcyclic self.now }
     {
         self.latches.len()
     }
 
-    /// How many outputs there are.
+    /// The number of outputs.
     pub fn outputs(&self) -> usize
         ensures { result ≡ length self.now.outputs }
     {
         self.outputs.len()
     }
 
-    /// 64 steps from the same latches. Lane i of the row has the values of all variables at the input letter `first` + i: bit j of a
-    /// letter is the j-th input.
+    /// Computes 64 steps from the same latches. Lane i of the row gets the values of all variables for the input letter
+    /// `first` + i; bit j of a letter is the j-th input.
     pub fn step(&self, latches: &[bool], first: u32, row: &mut [u64])
         requires few { length self.now.inputs ≤ 16 }
         requires latches { length latches.now ≡ length self.now.latches }
@@ -168,7 +169,7 @@ impl Netlist {
         put_gates(row, &self.ordered);
     }
 
-    /// The output letter in a lane: bit j is the j-th output.
+    /// The output letter in a lane; bit j is the j-th output.
     pub fn output(&self, row: &[u64], lane: u32) -> u32
         requires few { length self.now.outputs ≤ 16 }
         requires lane { lane < 64 }
@@ -179,7 +180,7 @@ impl Netlist {
         number_at(row, &self.outputs, lane)
     }
 
-    /// The latches of the step that follows that in a lane.
+    /// Writes the latches after the step in a lane.
     pub fn next(&self, row: &[u64], lane: u32, latches: &mut [bool])
         requires lane { lane < 64 }
         requires latches { length latches.old ≡ length self.now.latches }

@@ -1,15 +1,15 @@
 -- Names that are given places, one after another.
-use Rattle.pg_aiger_reader.proofs.Common.{◌≡◌, ◌⊎◌, ℕ, ◌+◌, ◌<◌, false, List, [], ◌∷◌, ◌++◌, length, get_or, refl, sym, ap, subst}
-use Rattle.pg_aiger_reader.proofs.Common.{◌∙◌, arith, inl, inr, cases_lt, Contains, Contains-get_or, length-append, get_or_append_left, get_or_push, get_or_default, map}
-use Rattle.std.specs.Prelude.{All}
+use Rattle.pg_aiger_reader.proofs.Common.{◌≡◌, ◌⊎◌, ℕ, zero, suc, ◌+◌, ◌<◌, false, List, [], ◌∷◌, ◌++◌, length, get_or, refl, sym, ap, subst}
+use Rattle.pg_aiger_reader.proofs.Common.{◌∙◌, arith, inl, inr, cases_lt, Contains}
+use Rattle.pg_aiger_reader.proofs.Common.{Contains-get_or, length-append, get_or_append_left, get_or_push, get_or_default, map}
+use Rattle.std.specs.Prelude.{All, Result, Ok, MatchResult}
 use Rattle.pg_aiger.specs.CircuitText.{Kind, Symbol}
-use Rattle.pg_aiger_reader.specs.Ties.{IsNamed, AreTied, IsTwice, IsExtra, literals_at}
+use Rattle.pg_aiger_reader.specs.Ties.{IsNamed, AreTied, HasPlace, IsNext, IsLeft, IsAt, IsFirstName, literals_at}
 use Rattle.pg_aiger_reader.specs.Mirrors.Places.{IsPlaceOf, AreGiven, texts}
 use Rattle.pg_aiger_reader.proofs.Common.{Bor, get_or-map, length-map, map_push, take, take_more}
 use Rattle.pg_aiger_reader.specs.Views.{symbol_in}
 use Rattle.pg_aiger_reader.specs.declared.symbol.Symbol as memory
 use Rattle.pg_aiger_reader.specs.declared.symbol.Kind.TheVariants as kinds
-use Rattle.pg_aiger_reader.specs.declared.ties.Place.{Place}
 use Rattle.pg_aiger_reader.specs.declared.ties.Place.TheVariants.{At}
 
 pub none_given : (kind : Kind) (count : ℕ) (symbols : List Symbol) (names : List (List ℕ)) → AreGiven kind count symbols names 0 []
@@ -56,15 +56,14 @@ given_more kind count symbols names k places p given place new = record {
       ];
 }
 
--- a place that a name before has
-pub taken_twice : (kind : Kind) (symbols : List Symbol) (names : List (List ℕ)) (literals : List ℕ) (k : ℕ) (places : List ℕ) (p : ℕ)
-    → AreGiven kind (length literals) symbols names k places → IsPlaceOf kind (length literals) symbols (get_or names k []) (At p) → k < length names
-    → Contains places p → IsTwice false kind symbols names literals k
-taken_twice kind symbols names literals k places p given place within (j, below, is) =
-    let all = given.all in
-    let short : j < k = omega arith in
-    let here : get_or places j 0 ≡ p = get_or_default places j 0 p below ∙ is in
-    (within, inr (j, p, short, subst (IsNamed kind (length literals) symbols (get_or names j [])) here (given.named j short), place.0))
+-- such a name has a place of its own
+pub has_place : (kind : Kind) (count : ℕ) (symbols : List Symbol) (names : List (List ℕ)) (so_many : ℕ) (places : List ℕ)
+    → AreGiven kind count symbols names so_many places → (k : ℕ) → k < so_many → HasPlace kind count symbols names k
+has_place kind count symbols names so_many places given k below = (
+  get_or places k 0,
+  (given.named k below, λ other is. given.nowhere_else k other below is),
+  λ j before is. given.apart j k before below (sym (given.nowhere_else j (get_or places k 0) (omega arith) is)),
+)
 
 -- ---- all names
 
@@ -94,15 +93,22 @@ places_within kind count symbols names so_many places given = λ i d below.
     let within : get_or places i 0 < count = is.2.within in
     subst (λ p. p < count) (get_or_default places i 0 d below) within
 
-pub is_extra : (kind : Kind) (symbols : List Symbol) (names : List (List ℕ)) (literals places : List ℕ) (p : ℕ)
-    → AreGiven kind (length literals) symbols names (length names) places → p < length literals → (Contains places p → ⊥)
-    → IsExtra false kind symbols names literals p
-is_extra kind symbols names literals places p given within new = (
-  within,
-  λ k below is.
+pub is_left : (kind : Kind) (count : ℕ) (symbols : List Symbol) (names : List (List ℕ)) (places : List ℕ) (p : ℕ)
+    → AreGiven kind count symbols names (length names) places → p < count → (Contains places p → ⊥) → ((q : ℕ) → q < p → Contains places q)
+    → IsLeft kind count symbols names p
+is_left kind count symbols names places p given within new before = record {
+  all = λ k below. has_place kind count symbols names (length names) places given k below;
+  within = within;
+  left = λ k below is.
       let all = given.all in
-      new (subst (Contains places) (sym (given.nowhere_else k p below is)) (Contains-get_or places k 0 (omega arith))),
-)
+      new (subst (Contains places) (sym (given.nowhere_else k p below is)) (Contains-get_or places k 0 (omega arith)));
+  before = λ q short.
+      let (j, below, is) = before q short in
+      let all = given.all in
+      let here : get_or places j 0 ≡ q = get_or_default places j 0 q below ∙ is in
+      let among : j < length names = omega arith in
+      (j, among, subst (IsNamed kind count symbols (get_or names j [])) here (given.named j among));
+}
 
 -- ---- names and symbols where they lie in memory
 
@@ -118,13 +124,15 @@ name_at names k within = get_or-map (λ name. name.now) names k no_name [] withi
 pub as_many : (names : List (Bor (List ℕ))) → length (texts names) ≡ length names
 as_many names = length-map names (λ name. name.now)
 
--- what symbols say of the name at a position of a list
-pub moved : (kind : Kind) (count : ℕ) (symbols : List Symbol) (names : List (Bor (List ℕ))) (k : ℕ) (literals : List ℕ) (p : Place)
-    → length literals ≡ count → k < length names → IsPlaceOf kind count symbols (get_or names k no_name).now p
-    → IsPlaceOf kind (length literals) symbols (get_or (texts names) k []) p
-moved kind count symbols names k literals p same within seen =
-    subst (λ n. IsPlaceOf kind n symbols (get_or (texts names) k []) p) (sym same)
-    (subst (λ name. IsPlaceOf kind count symbols name p) (sym (name_at names k within)) seen)
+-- the name that is looked for behind those that have places
+pub is_next : (kind : Kind) (count : ℕ) (symbols : List Symbol) (names : List (Bor (List ℕ))) (k : ℕ) (places name : List ℕ)
+    → AreGiven kind count symbols (texts names) k places → k < length names → name ≡ (get_or names k no_name).now
+    → IsNext kind count symbols (texts names) k name
+is_next kind count symbols names k places name given within e = record {
+  within = subst (λ n. k < n) (sym (as_many names)) within;
+  there = name_at names k within ∙ sym e;
+  before = λ j below. has_place kind count symbols (texts names) k places given j below;
+}
 
 pub more_symbols : (symbols : List memory.Symbol) (i : ℕ) → i < length symbols
     → map symbol_in (take (i + 1) symbols) ≡ map symbol_in (take i symbols) ++ symbol_in (get_or symbols i no_symbol) ∷ []
@@ -134,3 +142,18 @@ more_symbols symbols i within =
 pub symbol_at : (symbols : List memory.Symbol) (i : ℕ) (d : Symbol) → i < length symbols
     → get_or (map symbol_in symbols) i d ≡ symbol_in (get_or symbols i no_symbol)
 symbol_at symbols i d within = get_or-map symbol_in symbols i no_symbol d within
+
+-- ---- the first symbol of a place
+
+pub first_is : (kind : Kind) (place : ℕ) (symbols : List Symbol) (i : ℕ) (d : Symbol) → i < length symbols
+    → ((k : ℕ) → k < i → ¬ IsAt kind place (get_or symbols k d)) → IsAt kind place (get_or symbols i d)
+    → IsFirstName kind place symbols (get_or symbols i d).name
+first_is kind place [] i d below none is = absurd (omega arith)
+first_is kind place (s ∷ symbols) zero d below none is = inl (is, refl)
+first_is kind place (s ∷ symbols) (suc i) d below none is =
+    inr (none 0 (omega arith), first_is kind place symbols i d (omega arith) (λ k short. none (suc k) (omega arith)) is)
+
+-- ---- a result that is known
+
+pub matched : {T E : Type 0} (r : Result T E) (x : T) (P : T → Type 0) (Q : E → Type 0) → r ≡ Ok x → MatchResult r P Q → P x
+matched {T = T} {E = E} r x P Q e m = subst (λ (r : Result T E). MatchResult r P Q) e m

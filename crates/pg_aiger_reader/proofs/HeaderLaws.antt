@@ -1,15 +1,20 @@
 -- The first line: what is read is spelt, and what is spelt is read.
-use Rattle.pg_aiger_reader.proofs.Common.{◌≡◌, ℕ, ◌+◌, ◌≤◌, ◌&&◌, ◌||◌, Bool, true, false, List, [], ◌∷◌, ◌++◌}
+use Rattle.pg_aiger_reader.proofs.Common.{◌≡◌, ◌≢◌, ◌⊎◌, ℕ, ◌+◌, ◌<◌, ◌≤◌, ◌&&◌, ◌||◌, Bool, true, false, List, [], ◌∷◌, ◌++◌}
 use Rattle.pg_aiger_reader.proofs.Common.{length, Option, Some, None, refl, sym, subst, arith, inl, inr, ◌>>=◌, eqb, ltb, eq-eqb}
 use Rattle.pg_aiger_reader.proofs.Common.{eqb-true, le-ltb, le-leb, leb-true, ltb-false, chosen, some, some_is}
 use Rattle.pg_aiger_reader.proofs.Common.{none, none_is_some, line_at, header_of, header_at, AllByRecursion, and_parts, if◌then◌else◌}
 use Rattle.pg_aiger_reader.proofs.Lines.{line_found, line_only, line_few}
+use Rattle.pg_aiger_reader.proofs.Common.{cases_Bool, eqb-false, lt-ltb, ltb-true, ne_eqb, header_fault, fault_at}
 use Rattle.pg_aiger_reader.specs.declared.fault.Section.{Section}
+use Rattle.pg_aiger_reader.specs.declared.fault.Section.TheVariants.{BadStates, Constraints, Justice, Fairness}
+use Rattle.pg_aiger_reader.specs.declared.fault.ReaderFault.{ReaderFault}
+use Rattle.pg_aiger_reader.specs.declared.fault.ReaderFault.TheVariants.{OutOfMemory, Syntax, NumberTooLarge, TooLarge, LeftOut, Reset}
+use Rattle.pg_aiger_reader.specs.Faults.{IsLeftOut, IsHeaderFault}
 use Rattle.pg_aiger_reader.specs.declared.header.Header.{Header}
 use Rattle.pg_aiger_reader.specs.declared.item.Form.{Form}
 use Rattle.pg_aiger_reader.specs.declared.item.Form.TheVariants.{Ascii, Binary}
 use Rattle.pg_aiger_reader.specs.Texts.{BeginsLine, form_text, AreVariables}
-use Rattle.pg_aiger_reader.specs.Mirrors.Headers.{form_at, left_out, fits, head, within}
+use Rattle.pg_aiger_reader.specs.Mirrors.Headers.{form_at, left_out, fits, head, within, over}
 
 abbrev pub AreZeros : List ℕ → Type 0
 AreZeros ns = AllByRecursion (λ n. n ≡ 0) ns
@@ -195,3 +200,174 @@ header_only bytes h rest is =
       low',
       fits_only h.form h.greatest h.inputs h.latches h.gates is.variables,
     ) refl
+
+-- ---- what a header is refused for by name
+
+zero_or : (n : ℕ) (first s : Section) (rest : Option Section) → (if eqb n 0 then rest else Some first) ≡ some s
+    → ((n ≡ 0) × (rest ≡ some s)) ⊎ ((n ≢ 0) × (first ≡ s))
+zero_or n first s rest e =
+    elim (chosen (eqb n 0) rest (some first) (some s) e) [
+      | inl w ↦ inl (eqb-true n 0 w.0, w.1)
+      | inr w ↦ inr (eqb-false n 0 w.0, some_is first s w.1)
+    ]
+
+left_out_found : (ns : List ℕ) (s : Section) → left_out ns ≡ Some s → IsLeftOut s ns
+left_out_found [] s e = absurd (none_is_some s e)
+left_out_found (b ∷ []) s e =
+    elim (zero_or b BadStates s none e) [
+      | inl w0 ↦ absurd (none_is_some s w0.1)
+      | inr w0 ↦ subst (λ t. IsLeftOut t (b ∷ [])) w0.1 w0.0
+    ]
+left_out_found (b ∷ c ∷ []) s e =
+    elim (zero_or b BadStates s _ e) [
+      | inl w0 ↦ elim (zero_or c Constraints s none w0.1) [
+        | inl w1 ↦ absurd (none_is_some s w1.1)
+        | inr w1 ↦ subst (λ t. IsLeftOut t (b ∷ c ∷ [])) w1.1 (w0.0, w1.0)
+      ]
+      | inr w0 ↦ subst (λ t. IsLeftOut t (b ∷ c ∷ [])) w0.1 w0.0
+    ]
+left_out_found (b ∷ c ∷ j ∷ []) s e =
+    elim (zero_or b BadStates s _ e) [
+      | inl w0 ↦ elim (zero_or c Constraints s _ w0.1) [
+        | inl w1 ↦ elim (zero_or j Justice s none w1.1) [
+          | inl w2 ↦ absurd (none_is_some s w2.1)
+          | inr w2 ↦ subst (λ t. IsLeftOut t (b ∷ c ∷ j ∷ [])) w2.1 (w0.0, w1.0, w2.0)
+        ]
+        | inr w1 ↦ subst (λ t. IsLeftOut t (b ∷ c ∷ j ∷ [])) w1.1 (w0.0, w1.0)
+      ]
+      | inr w0 ↦ subst (λ t. IsLeftOut t (b ∷ c ∷ j ∷ [])) w0.1 w0.0
+    ]
+left_out_found (b ∷ c ∷ j ∷ f ∷ ns) s e =
+    elim (zero_or b BadStates s _ e) [
+      | inl w0 ↦ elim (zero_or c Constraints s _ w0.1) [
+        | inl w1 ↦ elim (zero_or j Justice s _ w1.1) [
+          | inl w2 ↦ elim (zero_or f Fairness s none w2.1) [
+            | inl w3 ↦ absurd (none_is_some s w3.1)
+            | inr w3 ↦ subst (λ t. IsLeftOut t (b ∷ c ∷ j ∷ f ∷ ns)) w3.1 (w0.0, w1.0, w2.0, w3.0)
+          ]
+          | inr w2 ↦ subst (λ t. IsLeftOut t (b ∷ c ∷ j ∷ f ∷ ns)) w2.1 (w0.0, w1.0, w2.0)
+        ]
+        | inr w1 ↦ subst (λ t. IsLeftOut t (b ∷ c ∷ j ∷ f ∷ ns)) w1.1 (w0.0, w1.0)
+      ]
+      | inr w0 ↦ subst (λ t. IsLeftOut t (b ∷ c ∷ j ∷ f ∷ ns)) w0.1 w0.0
+    ]
+
+left_out_only : (s : Section) (ns : List ℕ) → IsLeftOut s ns → left_out ns ≡ Some s
+left_out_only BadStates [] is = absurd is
+left_out_only BadStates (b ∷ []) is = rw (ne_eqb b 0 is) refl
+left_out_only BadStates (b ∷ c ∷ []) is = rw (ne_eqb b 0 is) refl
+left_out_only BadStates (b ∷ c ∷ j ∷ []) is = rw (ne_eqb b 0 is) refl
+left_out_only BadStates (b ∷ c ∷ j ∷ f ∷ ns) is = rw (ne_eqb b 0 is) refl
+left_out_only Constraints [] is = absurd is
+left_out_only Constraints (b ∷ []) is = absurd is
+left_out_only Constraints (b ∷ c ∷ []) is = rw (is.0, ne_eqb c 0 is.1) refl
+left_out_only Constraints (b ∷ c ∷ j ∷ []) is = rw (is.0, ne_eqb c 0 is.1) refl
+left_out_only Constraints (b ∷ c ∷ j ∷ f ∷ ns) is = rw (is.0, ne_eqb c 0 is.1) refl
+left_out_only Justice [] is = absurd is
+left_out_only Justice (b ∷ []) is = absurd is
+left_out_only Justice (b ∷ c ∷ []) is = absurd is
+left_out_only Justice (b ∷ c ∷ j ∷ []) is = rw (is.0, is.1, ne_eqb j 0 is.2) refl
+left_out_only Justice (b ∷ c ∷ j ∷ f ∷ ns) is = rw (is.0, is.1, ne_eqb j 0 is.2) refl
+left_out_only Fairness [] is = absurd is
+left_out_only Fairness (b ∷ []) is = absurd is
+left_out_only Fairness (b ∷ c ∷ []) is = absurd is
+left_out_only Fairness (b ∷ c ∷ j ∷ []) is = absurd is
+left_out_only Fairness (b ∷ c ∷ j ∷ f ∷ ns) is = rw (is.0, is.1, is.2, ne_eqb f 0 is.3) refl
+
+either_true : (a b : Bool) → a || b ≡ true → (a ≡ true) ⊎ (b ≡ true)
+either_true true b e = inl refl
+either_true false b e = inr e
+
+over_found : (m o : ℕ) (ns : List ℕ) (out : Option Section) (fault : ReaderFault) → length ns ≤ 4 → left_out ns ≡ out → over m o out ≡ Some fault
+    → IsHeaderFault m o ns fault
+over_found m o ns (Some s) fault few same e =
+    subst (IsHeaderFault m o ns) (some_is (LeftOut s) fault e) (left_out_found ns s same)
+over_found m o ns None fault few same e =
+    elim (chosen (ltb 16777216 m || ltb 16777216 o) (some TooLarge) none (some fault) e) [
+      | inl w ↦
+          let large : (16777216 < m) ⊎ (16777216 < o) =
+          elim (either_true (ltb 16777216 m) (ltb 16777216 o) w.0) [ inl h ↦ inl (ltb-true _ _ h) | inr h ↦ inr (ltb-true _ _ h) ] in
+          subst (IsHeaderFault m o ns) (some_is TooLarge fault w.1) (zeros_found ns few same, large)
+      | inr w ↦ absurd (none_is_some fault w.1)
+    ]
+
+over_large : (m o : ℕ) → (16777216 < m) ⊎ (16777216 < o) → over m o None ≡ Some TooLarge
+over_large m o (inl lt) = rw (lt-ltb _ _ lt) refl
+over_large m o (inr lt) =
+    elim (cases_Bool (ltb 16777216 m)) [ inl h ↦ rw h refl | inr h ↦ rw (h, lt-ltb _ _ lt) refl ]
+
+over_only : (m o : ℕ) (ns : List ℕ) (fault : ReaderFault) → IsHeaderFault m o ns fault → over m o (left_out ns) ≡ Some fault
+over_only m o ns (LeftOut s) is = rw (left_out_only s ns is) refl
+over_only m o ns TooLarge is = rw (zeros_only ns is.0) (over_large m o is.1)
+over_only m o ns OutOfMemory is = absurd is
+over_only m o ns (Syntax n) is = absurd is
+over_only m o ns (NumberTooLarge n) is = absurd is
+over_only m o ns (Reset n) is = absurd is
+
+-- a header that is refused for this
+pub record IsRefusedHeader (bytes : List ℕ) (fault : ReaderFault) : Type 0 where
+  pub form : Form
+  pub text : List ℕ
+  pub rest : List ℕ
+  pub m : ℕ
+  pub i : ℕ
+  pub l : ℕ
+  pub o : ℕ
+  pub a : ℕ
+  pub counts : List ℕ
+  pub begins : bytes ≡ form_text form ++ text
+  pub line : BeginsLine text (m ∷ i ∷ l ∷ o ∷ a ∷ counts) rest
+  pub few : length counts ≤ 4
+  pub wrong : IsHeaderFault m o counts fault
+
+pub fault_found : (bytes : List ℕ) (fault : ReaderFault) → fault_at bytes ≡ Some fault → IsRefusedHeader bytes fault
+unfolding fault_at header_fault
+fault_found bytes fault e = of_form (form_at bytes) refl e
+  where
+    of_line : (form : Form) (text : List ℕ) → bytes ≡ form_text form ++ text → (read : Option (List ℕ × List ℕ)) → line_at 9 text ≡ read
+        → (read >>= λ y. header_fault y.0) ≡ Some fault → IsRefusedHeader bytes fault
+    of_line form text begins None same e = absurd (none_is_some fault e)
+    of_line form text begins (Some ([], rest)) same e = absurd (none_is_some fault e)
+    of_line form text begins (Some (m ∷ [], rest)) same e = absurd (none_is_some fault e)
+    of_line form text begins (Some (m ∷ i ∷ [], rest)) same e = absurd (none_is_some fault e)
+    of_line form text begins (Some (m ∷ i ∷ l ∷ [], rest)) same e = absurd (none_is_some fault e)
+    of_line form text begins (Some (m ∷ i ∷ l ∷ o ∷ [], rest)) same e = absurd (none_is_some fault e)
+    of_line form text begins (Some (m ∷ i ∷ l ∷ o ∷ a ∷ more, rest)) same e =
+        let few = line_few 9 text (m ∷ i ∷ l ∷ o ∷ a ∷ more, rest) same in
+        let short : length more ≤ 4 = omega (arith, few) in
+        record {
+          form = form;
+          text = text;
+          rest = rest;
+          m = m;
+          i = i;
+          l = l;
+          o = o;
+          a = a;
+          counts = more;
+          begins = begins;
+          line = (line_found 9 text (m ∷ i ∷ l ∷ o ∷ a ∷ more, rest) same).1;
+          few = short;
+          wrong = over_found m o more (left_out more) fault short refl e;
+        }
+
+    of_form : (read : Option (Form × List ℕ)) → form_at bytes ≡ read → (read >>= λ y. line_at 9 y.1 >>= λ z. header_fault z.0) ≡ Some fault
+        → IsRefusedHeader bytes fault
+    of_form None same e = absurd (none_is_some fault e)
+    of_form (Some y) same e = of_line y.0 y.1 (form_found bytes y same) (line_at 9 y.1) refl e
+
+pub fault_only : (bytes : List ℕ) (fault : ReaderFault) → IsRefusedHeader bytes fault → fault_at bytes ≡ Some fault
+unfolding fault_at header_fault
+fault_only bytes fault is =
+    let few = is.few in
+    let line = line_only 9 is.text is.m (is.i ∷ is.l ∷ is.o ∷ is.a ∷ is.counts) is.rest is.line (omega (arith, few)) in
+    rw (is.begins, form_only is.form is.text, line) (over_only is.m is.o is.counts fault is.wrong)
+
+pub header_unnamed : (bytes : List ℕ) (h : Header) (rest : List ℕ) → IsHeader bytes h rest → fault_at bytes ≡ None
+unfolding fault_at header_fault
+header_unnamed bytes h rest is =
+    let few = is.few_zeros in
+    let line = line_only 9 is.text h.greatest (h.inputs ∷ h.latches ∷ h.outputs ∷ h.gates ∷ is.zeros) rest is.line (omega (arith, few)) in
+    let low : ltb 16777216 h.greatest ≡ false = le-ltb _ _ is.few_variables in
+    let low' : ltb 16777216 h.outputs ≡ false = le-ltb _ _ is.few_outputs in
+    rw (is.begins, form_only h.form is.text, line, zeros_only is.zeros is.zero, low, low') refl

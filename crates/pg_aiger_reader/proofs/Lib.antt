@@ -6,7 +6,10 @@ pub mod ItemLaws
 pub mod Latches
 pub mod Loops
 pub mod Many
+pub mod Once
 pub mod Places
 pub mod ReadingLaws
 pub mod SymbolLaws
 pub mod Symbols
+pub mod NameTexts
+pub mod TiedOrNot

@@ -18,9 +18,9 @@ pub fails : {X Y : Type 0} (e : ReaderFault) (step : Option X) (total : Option Y
 fails faults.OutOfMemory step total h all = tt
 fails (faults.Syntax n) step total h all = all h
 fails (faults.NumberTooLarge n) step total h all = all h
-fails faults.TooLarge step total h all = all h
-fails (faults.LeftOut s) step total h all = all h
-fails (faults.Reset n) step total h all = all h
+fails faults.TooLarge step total h all = h
+fails (faults.LeftOut s) step total h all = h
+fails (faults.Reset n) step total h all = h
 
 -- ---- lines
 

@@ -1,9 +1,14 @@
 -- The texts of faults.
-use Rattle.std.specs.Prelude.{ℕ, List, ◌++◌, codes, decimal}
+use Rattle.std.specs.Prelude.{ℕ, Bool, false, not, ◌/◌, ◌%◌, ◌==◌, ◌&&◌, ◌||◌, nat_lt, List, [], ◌∷◌, ◌++◌, codes, decimal, if◌then◌else◌}
+use Rattle.std.specs.List.{flat_map, list_any}
+use Rattle.std.specs.Str.{is_utf8}
+use Rattle.std.specs.Fmt.{digit_glyph}
 use Rattle.pg_aiger_reader.specs.declared.fault.Section.{Section}
 use Rattle.pg_aiger_reader.specs.declared.fault.Section.TheVariants.{BadStates, Constraints, Justice, Fairness}
 use Rattle.pg_aiger_reader.specs.declared.fault.ReaderFault.{ReaderFault}
 use Rattle.pg_aiger_reader.specs.declared.fault.ReaderFault.TheVariants.{OutOfMemory, Syntax, NumberTooLarge, TooLarge, LeftOut, Reset}
+use Rattle.pg_aiger_reader.specs.declared.fault.SideFault.{SideFault}
+use Rattle.pg_aiger_reader.specs.declared.fault.SideFault.TheVariants.{Missing, Twice, Shared, Nameless, Extra, Short, Long}
 use Rattle.pg_aiger_reader.specs.declared.fault.TieFault.{TieFault}
 use Rattle.pg_aiger_reader.specs.declared.fault.TieFault.TheVariants as ties
 
@@ -21,12 +26,35 @@ reader_fault_text TooLarge = codes "circuit too large"
 reader_fault_text (LeftOut section) = codes "the circuit has " ++ (section_text section ++ codes ", which are not read")
 reader_fault_text (Reset position) = codes "latch " ++ (decimal position ++ codes " does not start at 0")
 
+-- a byte that doesn't print
+abbrev pub is_control : ℕ → Bool
+is_control byte = nat_lt byte 32 || byte == 127
+
+-- a byte that prints as it is, but a backslash twice; any other as a backslash, `x` and its two digits in base 16
+abbrev pub escaped : ℕ → List ℕ
+escaped byte =
+    if byte == 92 then codes "\\\\"
+    else (if nat_lt byte 32 || nat_lt 126 byte then codes "\\x" ++ (digit_glyph false (byte / 16) ∷ digit_glyph false (byte % 16) ∷ [])
+    else byte ∷ [])
+
+-- the name as it is, if it is UTF-8 and all of it prints
+abbrev pub name_text : List ℕ → List ℕ
+name_text name = if is_utf8 name && not (list_any is_control name) then name else flat_map escaped name
+
+-- the word is `input` or `output`
+abbrev pub side_fault_text : List ℕ → SideFault → List ℕ
+side_fault_text word (Missing name) = codes "the circuit has no " ++ (word ++ (codes " named " ++ name_text name.bytes.items))
+side_fault_text word (Twice name) = codes "two " ++ (word ++ (codes "s are named " ++ name_text name.bytes.items))
+side_fault_text word (Shared place one other) =
+    word ++ (codes " " ++ (decimal place ++ (codes " is named " ++ (name_text one.bytes.items ++ (codes " and " ++ name_text other.bytes.items)))))
+side_fault_text word (Nameless place) = word ++ (codes " " ++ (decimal place ++ codes " has no symbol"))
+side_fault_text word (Extra place name) =
+    codes "the circuit has an " ++ (word ++ (codes " more: " ++ (word ++ (codes " " ++ (decimal place ++ (codes ", named " ++ name_text name.bytes.items))))))
+side_fault_text word (Short name) = codes "the circuit has no " ++ (word ++ (codes " for " ++ name_text name.bytes.items))
+side_fault_text word (Long place) = codes "the circuit has an " ++ (word ++ (codes " more: " ++ (word ++ (codes " " ++ decimal place))))
+
 abbrev pub tie_fault_text : TieFault → List ℕ
 tie_fault_text ties.OutOfMemory = codes "out of memory"
 tie_fault_text ties.NoSymbols = codes "the inputs and outputs have no names; --by-place takes them in order"
-tie_fault_text (ties.MissingInput name) = codes "no input for proposition " ++ (decimal name ++ codes " of the inputs")
-tie_fault_text (ties.MissingOutput name) = codes "no output for proposition " ++ (decimal name ++ codes " of the outputs")
-tie_fault_text (ties.ExtraInput place) = codes "the circuit has an input more: input " ++ decimal place
-tie_fault_text (ties.ExtraOutput place) = codes "the circuit has an output more: output " ++ decimal place
-tie_fault_text (ties.InputNameTwice name) = codes "two inputs for proposition " ++ (decimal name ++ codes " of the inputs")
-tie_fault_text (ties.OutputNameTwice name) = codes "two outputs for proposition " ++ (decimal name ++ codes " of the outputs")
+tie_fault_text (ties.Inputs fault) = side_fault_text (codes "input") fault
+tie_fault_text (ties.Outputs fault) = side_fault_text (codes "output") fault

@@ -1,10 +1,70 @@
 -- Why a text is refused.
-use Rattle.std.specs.Prelude.{ℕ, List}
+use Rattle.std.specs.Prelude.{◌≡◌, ◌≢◌, ◌⊎◌, ℕ, zero, suc, ◌<◌, ◌≤◌, List, [], ◌∷◌, ◌++◌, length}
+use Rattle.std.specs.List.{AllByRecursion}
+use Rattle.pg_aiger.specs.Circuits.{Circuit}
+use Rattle.pg_aiger_reader.specs.declared.fault.Section.{Section}
+use Rattle.pg_aiger_reader.specs.declared.fault.Section.TheVariants.{BadStates, Constraints, Justice, Fairness}
 use Rattle.pg_aiger_reader.specs.declared.fault.ReaderFault.{ReaderFault}
-use Rattle.pg_aiger_reader.specs.declared.fault.ReaderFault.TheVariants.{OutOfMemory}
-use Rattle.pg_aiger_reader.specs.Texts.{SpellsNone}
+use Rattle.pg_aiger_reader.specs.declared.fault.ReaderFault.TheVariants.{OutOfMemory, Syntax, NumberTooLarge, TooLarge, LeftOut, Reset}
+use Rattle.pg_aiger_reader.specs.declared.item.Form.{Form}
+use Rattle.pg_aiger_reader.specs.declared.item.LatchLine.{LatchLine}
+use Rattle.pg_aiger_reader.specs.Texts.{BeginsLine, form_text, HasBody, IsBody, SpellsNone}
 
--- Whichever fault it is, unless memory ran out no circuit is spelt.
+-- Of the numbers B, C, J and F, as far as they are there, this is the first that isn't 0.
+abbrev pub IsLeftOut : Section → List ℕ → Type 0
+IsLeftOut BadStates (b ∷ counts) = b ≢ 0
+IsLeftOut Constraints (b ∷ c ∷ counts) = (b ≡ 0) × (c ≢ 0)
+IsLeftOut Justice (b ∷ c ∷ j ∷ counts) = (b ≡ 0) × (c ≡ 0) × (j ≢ 0)
+IsLeftOut Fairness (b ∷ c ∷ j ∷ f ∷ counts) = (b ≡ 0) × (c ≡ 0) × (j ≡ 0) × (f ≢ 0)
+IsLeftOut _ _ = ⊥
+
+-- what a header with these numbers M and O, and these behind A, is refused for by name
+abbrev pub IsHeaderFault : ℕ → ℕ → List ℕ → ReaderFault → Type 0
+IsHeaderFault m o counts (LeftOut section) = IsLeftOut section counts
+IsHeaderFault m o counts TooLarge = AllByRecursion (λ n. n ≡ 0) counts × ((16777216 < m) ⊎ (16777216 < o))
+IsHeaderFault m o counts _ = ⊥
+
+-- The bytes begin with a header, perhaps behind a line `REALIZABLE`, which is refused for this.
+pub record HasHeaderFault (bytes : List ℕ) (fault : ReaderFault) : Type 0 where
+  pub form : Form
+  pub text : List ℕ
+  pub rest : List ℕ
+  pub m : ℕ
+  pub i : ℕ
+  pub l : ℕ
+  pub o : ℕ
+  pub a : ℕ
+  pub counts : List ℕ
+  pub whole : HasBody bytes (form_text form ++ text)
+  pub line : BeginsLine text (m ∷ i ∷ l ∷ o ∷ a ∷ counts) rest
+  pub few : length counts ≤ 4
+  pub wrong : IsHeaderFault m o counts fault
+
+-- the latch at this place is the first that doesn't start at 0
+abbrev pub IsFirstReset : List LatchLine → ℕ → Type 0
+IsFirstReset [] place = ⊥
+IsFirstReset (l ∷ lines) zero = l.reset ≢ 0
+IsFirstReset (l ∷ lines) (suc place) = (l.reset ≡ 0) × IsFirstReset lines place
+
+-- The bytes begin as those of a circuit, up to the symbols, but for a latch.
+pub record HasReset (bytes : List ℕ) (place : ℕ) : Type 0 where
+  pub form : Form
+  pub body : List ℕ
+  pub circuit : Circuit
+  pub lines : List LatchLine
+  pub rest : List ℕ
+  pub whole : HasBody bytes body
+  pub good : IsBody form body circuit lines rest
+  pub wrong : IsFirstReset lines place
+
+-- the faults that say by their name what is wrong
+abbrev pub IsNamedFault : List ℕ → ReaderFault → Type 0
+IsNamedFault bytes (Reset place) = HasReset bytes place
+IsNamedFault bytes fault = HasHeaderFault bytes fault
+
+-- Memory may run out on each text. Whichever other fault it is, no circuit is spelt. A fault by its name comes exactly if it is so.
 abbrev pub Refuses : List ℕ → ReaderFault → Type 0
 Refuses bytes OutOfMemory = Unit {0}
-Refuses bytes _ = SpellsNone bytes
+Refuses bytes (Syntax offset) = SpellsNone bytes × ((fault : ReaderFault) → ¬ IsNamedFault bytes fault)
+Refuses bytes (NumberTooLarge offset) = SpellsNone bytes × ((fault : ReaderFault) → ¬ IsNamedFault bytes fault)
+Refuses bytes fault = SpellsNone bytes × IsNamedFault bytes fault

@@ -87,18 +87,15 @@ AreVariables Binary defined greatest = defined ≡ greatest
 abbrev pub latch_in : LatchLine → Latch
 latch_in l = record { literal = l.literal; next = l.next }
 
--- The bytes spell the circuit and the symbols: after the header `M I L O A`, which may have B, C, J and F behind, all 0, follow
--- inputs, latches, outputs, gates, symbols, and perhaps a comment. All latches are 0 at first.
-pub record IsText (form : Form) (bytes : List ℕ) (circuit : Circuit) (symbols : List Symbol) : Type 0 where
+-- The bytes begin with a header `M I L O A`, which may have B, C, J and F behind, all 0; inputs, latches, outputs and gates follow. Latches
+-- may be of any value at first.
+pub record IsBody (form : Form) (bytes : List ℕ) (circuit : Circuit) (lines : List LatchLine) (behind_gates : List ℕ) : Type 0 where
   pub text : List ℕ
   pub zeros : List ℕ
   pub behind_header : List ℕ
   pub behind_inputs : List ℕ
   pub behind_latches : List ℕ
   pub behind_outputs : List ℕ
-  pub behind_gates : List ℕ
-  pub comment : List ℕ
-  pub lines : List LatchLine
   pub begins : bytes ≡ form_text form ++ text
   pub header : BeginsLine text
       (circuit.greatest ∷ length circuit.inputs ∷ length circuit.latches ∷ length circuit.outputs ∷ length circuit.gates ∷ zeros) behind_header
@@ -107,21 +104,32 @@ pub record IsText (form : Form) (bytes : List ℕ) (circuit : Circuit) (symbols 
   pub variables : AreVariables form (length circuit.inputs + length circuit.latches + length circuit.gates) circuit.greatest
   pub inputs : AreItems (IsInput form) 1 behind_header circuit.inputs behind_inputs
   pub latches : AreItems (IsLatch form) (1 + length circuit.inputs) behind_inputs lines behind_latches
-  pub start : AllByRecursion (λ l. l.reset ≡ 0) lines
   pub same : circuit.latches ≡ map latch_in lines
   pub outputs : AreItems IsOutput 1 behind_latches circuit.outputs behind_outputs
   pub gates : AreItems (IsGate form) (1 + length circuit.inputs + length circuit.latches) behind_outputs circuit.gates behind_gates
+  pub few_variables : circuit.greatest ≤ 16777216
+  pub few_outputs : length circuit.outputs ≤ 16777216
+
+-- The bytes spell the circuit and the symbols: behind the gates stand symbols, and perhaps a comment. All latches are 0 at first.
+pub record IsText (form : Form) (bytes : List ℕ) (circuit : Circuit) (symbols : List Symbol) : Type 0 where
+  pub lines : List LatchLine
+  pub behind_gates : List ℕ
+  pub comment : List ℕ
+  pub body : IsBody form bytes circuit lines behind_gates
+  pub start : AllByRecursion (λ l. l.reset ≡ 0) lines
   pub names : AreItems (IsSymbol circuit) 0 behind_gates symbols comment
   pub ends : IsComment comment
 
--- The bytes spell them within the limits, perhaps behind a line `REALIZABLE`.
+-- a text, perhaps behind a line `REALIZABLE`
+abbrev pub HasBody : List ℕ → List ℕ → Type 0
+HasBody bytes body = (bytes ≡ body) ⊎ (bytes ≡ codes "REALIZABLE\n" ++ body)
+
+-- The bytes spell them, perhaps behind a line `REALIZABLE`.
 pub record IsRead (bytes : List ℕ) (circuit : Circuit) (symbols : List Symbol) : Type 0 where
   pub form : Form
   pub body : List ℕ
-  pub whole : (bytes ≡ body) ⊎ (bytes ≡ codes "REALIZABLE\n" ++ body)
+  pub whole : HasBody bytes body
   pub text : IsText form body circuit symbols
-  pub few_variables : circuit.greatest ≤ 16777216
-  pub few_outputs : length circuit.outputs ≤ 16777216
 
 -- no circuit is spelt
 abbrev pub SpellsNone : List ℕ → Type 0

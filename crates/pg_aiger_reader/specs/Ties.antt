@@ -1,12 +1,14 @@
 -- Which input and which output of a circuit is which proposition of an automaton.
-use Rattle.std.specs.Prelude.{◌≡◌, ◌≢◌, ◌⊎◌, ℕ, ◌<◌, Bool, true, false, List, [], length, map, get_or, Contains}
+use Rattle.std.specs.Prelude.{◌≡◌, ◌≢◌, ◌⊎◌, ℕ, ◌+◌, ◌<◌, Bool, true, false, List, [], ◌∷◌, length, map, get_or, Contains}
 use Rattle.std.specs.List.{AllPairs}
 use Rattle.pg_hoa_automaton.specs.Automata.{Automaton}
 use Rattle.pg_aiger.specs.Circuits.{Circuit}
 use Rattle.pg_aiger.specs.CircuitText.{Kind, input, latch, output, Symbol}
 use Rattle.pg_aiger.specs.CircuitLayout.{input_names, output_names}
+use Rattle.pg_aiger_reader.specs.declared.fault.SideFault.{SideFault}
+use Rattle.pg_aiger_reader.specs.declared.fault.SideFault.TheVariants.{Missing, Twice, Shared, Nameless, Extra, Short, Long}
 use Rattle.pg_aiger_reader.specs.declared.fault.TieFault.{TieFault}
-use Rattle.pg_aiger_reader.specs.declared.fault.TieFault.TheVariants.{OutOfMemory, NoSymbols, MissingInput, MissingOutput, ExtraInput, ExtraOutput, InputNameTwice, OutputNameTwice}
+use Rattle.pg_aiger_reader.specs.declared.fault.TieFault.TheVariants.{OutOfMemory, NoSymbols, Inputs, Outputs}
 
 -- the symbol gives the name to what stands at this place, one of so many of the kind
 pub record Gives (kind : Kind) (count : ℕ) (name : List ℕ) (place : ℕ) (s : Symbol) : Type 0 where
@@ -45,37 +47,73 @@ pub record IsTied (by_place : Bool) (a : Automaton) (circuit : Circuit) (symbols
 
 -- ---- faults
 
--- Why names and places don't fit: the name at this position in the list of names is given to no place; or there are more names than places.
-abbrev pub IsMissing : Bool → Kind → List Symbol → List (List ℕ) → List ℕ → ℕ → Type 0
-IsMissing true kind symbols names literals k = (k ≡ length literals) × (k < length names)
-IsMissing false kind symbols names literals k =
-    (k < length names) × ((place : ℕ) → ¬ IsNamed kind (length literals) symbols (get_or names k []) place)
+-- the name is given to the place, and to no other
+abbrev pub IsOnlyAt : Kind → ℕ → List Symbol → List ℕ → ℕ → Type 0
+IsOnlyAt kind count symbols name place =
+    IsNamed kind count symbols name place × ((other : ℕ) → IsNamed kind count symbols name other → other ≡ place)
 
--- no name is given to the place; or there are more places than names
-abbrev pub IsExtra : Bool → Kind → List Symbol → List (List ℕ) → List ℕ → ℕ → Type 0
-IsExtra true kind symbols names literals place = (place ≡ length names) × (place < length literals)
-IsExtra false kind symbols names literals place =
-    (place < length literals) × ((k : ℕ) → k < length names → ¬ IsNamed kind (length literals) symbols (get_or names k []) place)
+-- the name at this position of the list has a place of its own: it is given to one, and no name before it is given to that
+abbrev pub HasPlace : Kind → ℕ → List Symbol → List (List ℕ) → ℕ → Type 0
+HasPlace kind count symbols names k =
+    (place : ℕ) × IsOnlyAt kind count symbols (get_or names k []) place
+    × ((j : ℕ) → j < k → ¬ IsNamed kind count symbols (get_or names j []) place)
 
--- a name is given to two places, or a name before it to the same place
-abbrev pub IsTwice : Bool → Kind → List Symbol → List (List ℕ) → List ℕ → ℕ → Type 0
-IsTwice true kind symbols names literals k = ⊥
-IsTwice false kind symbols names literals k =
-    (k < length names)
-    × (((p : ℕ) × (q : ℕ) × (p ≢ q) × IsNamed kind (length literals) symbols (get_or names k []) p × IsNamed kind (length literals) symbols (get_or names k []) q)
-    ⊎ ((j : ℕ) × (p : ℕ) × (j < k) × IsNamed kind (length literals) symbols (get_or names j []) p × IsNamed kind (length literals) symbols (get_or names k []) p))
+-- the name stands at this position of the list, and those before it have places of their own
+pub record IsNext (kind : Kind) (count : ℕ) (symbols : List Symbol) (names : List (List ℕ)) (k : ℕ) (name : List ℕ) : Type 0 where
+  pub within : k < length names
+  pub there : get_or names k [] ≡ name
+  pub before : (j : ℕ) → j < k → HasPlace kind count symbols names j
 
--- names are asked for, and no input and no output has one
-abbrev pub IsNameless : Bool → List Symbol → Type 0
-IsNameless true symbols = ⊥
-IsNameless false symbols = (s : Symbol) → Contains symbols s → s.kind ≡ latch
+-- all names have places of their own, and this is the first place that none of them has
+pub record IsLeft (kind : Kind) (count : ℕ) (symbols : List Symbol) (names : List (List ℕ)) (place : ℕ) : Type 0 where
+  pub all : (k : ℕ) → k < length names → HasPlace kind count symbols names k
+  pub within : place < count
+  pub left : (k : ℕ) → k < length names → ¬ IsNamed kind count symbols (get_or names k []) place
+  pub before : (p : ℕ) → p < place → (k : ℕ) × (k < length names) × IsNamed kind count symbols (get_or names k []) p
 
+-- the symbol is one of the place
+abbrev pub IsAt : Kind → ℕ → Symbol → Type 0
+IsAt kind place s = (s.kind ≡ kind) × (s.position ≡ place)
+
+-- the first symbol of the place gives it this name
+abbrev pub IsFirstName : Kind → ℕ → List Symbol → List ℕ → Type 0
+IsFirstName kind place [] name = ⊥
+IsFirstName kind place (s ∷ symbols) name =
+    (IsAt kind place s × (s.name ≡ name)) ⊎ (¬ IsAt kind place s × IsFirstName kind place symbols name)
+
+-- Why the names, or so many places of the kind, are not tied: by symbols, the first name that has no place of its own, or else the first
+-- place that has none of the names; or there are fewer places, or more, where they are taken as they stand.
+abbrev pub IsSideFault : Bool → Kind → ℕ → List Symbol → List (List ℕ) → SideFault → Type 0
+IsSideFault false kind count symbols names (Missing name) =
+    (k : ℕ) × IsNext kind count symbols names k name.bytes.items × ((place : ℕ) → ¬ IsNamed kind count symbols name.bytes.items place)
+IsSideFault false kind count symbols names (Twice name) =
+    (k : ℕ) × IsNext kind count symbols names k name.bytes.items
+    × ((p : ℕ) × (q : ℕ) × (p ≢ q) × IsNamed kind count symbols name.bytes.items p × IsNamed kind count symbols name.bytes.items q)
+IsSideFault false kind count symbols names (Shared place one other) =
+    (k : ℕ) × IsNext kind count symbols names k other.bytes.items × IsOnlyAt kind count symbols other.bytes.items place
+    × ((j : ℕ) × (j < k) × (get_or names j [] ≡ one.bytes.items) × IsNamed kind count symbols one.bytes.items place)
+IsSideFault false kind count symbols names (Nameless place) =
+    IsLeft kind count symbols names place × ((s : Symbol) → Contains symbols s → ¬ IsAt kind place s)
+IsSideFault false kind count symbols names (Extra place name) =
+    IsLeft kind count symbols names place × IsFirstName kind place symbols name.bytes.items
+IsSideFault true kind count symbols names (Short name) = (count < length names) × (get_or names count [] ≡ name.bytes.items)
+IsSideFault true kind count symbols names (Long place) = (place ≡ length names) × (place < count)
+IsSideFault _ _ _ _ _ _ = ⊥
+
+-- names are asked for, there are inputs or outputs, and none of them has a name
+abbrev pub IsNameless : Bool → List ℕ → List ℕ → List Symbol → Type 0
+IsNameless true inputs outputs symbols = ⊥
+IsNameless false inputs outputs symbols =
+    (0 < length inputs + length outputs) × ((s : Symbol) → Contains symbols s → s.kind ≡ latch)
+
+-- inputs come first
 abbrev pub IsTieFault : Bool → Automaton → Circuit → List Symbol → TieFault → Type 0
 IsTieFault by_place a circuit symbols OutOfMemory = Unit {0}
-IsTieFault by_place a circuit symbols NoSymbols = IsNameless by_place symbols
-IsTieFault by_place a circuit symbols (MissingInput k) = IsMissing by_place input symbols (input_names a) circuit.inputs k
-IsTieFault by_place a circuit symbols (MissingOutput k) = IsMissing by_place output symbols (output_names a) circuit.outputs k
-IsTieFault by_place a circuit symbols (ExtraInput place) = IsExtra by_place input symbols (input_names a) circuit.inputs place
-IsTieFault by_place a circuit symbols (ExtraOutput place) = IsExtra by_place output symbols (output_names a) circuit.outputs place
-IsTieFault by_place a circuit symbols (InputNameTwice k) = IsTwice by_place input symbols (input_names a) circuit.inputs k
-IsTieFault by_place a circuit symbols (OutputNameTwice k) = IsTwice by_place output symbols (output_names a) circuit.outputs k
+IsTieFault by_place a circuit symbols NoSymbols = IsNameless by_place circuit.inputs circuit.outputs symbols
+IsTieFault by_place a circuit symbols (Inputs fault) =
+    ¬ IsNameless by_place circuit.inputs circuit.outputs symbols
+    × IsSideFault by_place input (length circuit.inputs) symbols (input_names a) fault
+IsTieFault by_place a circuit symbols (Outputs fault) =
+    ¬ IsNameless by_place circuit.inputs circuit.outputs symbols
+    × ((tied : List ℕ) × AreTied by_place input symbols (input_names a) circuit.inputs tied)
+    × IsSideFault by_place output (length circuit.outputs) symbols (output_names a) fault

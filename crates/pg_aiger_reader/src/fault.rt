@@ -2,13 +2,16 @@
 
 ghost use Rattle.std.specs.Prelude.{◌≡◌};
 ghost use Rattle.pg_aiger_reader.specs.declared.fault.ReaderFault.TheVariants.{OutOfMemory};
+ghost use Rattle.std.specs.Fmt.{WritesOnOk};
+ghost use Rattle.pg_aiger_reader.specs.FaultTexts.{side_fault_text};
 ghost use Rattle.pg_aiger_reader.specs.Mirrors.Steps.{turned};
 
+use crate::name::Name;
 use std::alloc::{AllocError, AllocFailed};
 use std::error::Error;
 use std::fmt;
 
-/// What AIGER 1.9 has besides a circuit, and this reader leaves out.
+/// A part of AIGER 1.9 that this reader doesn't support.
 #[derive(Clone, Copy, Debug, PartialEq, Eq)]
 pub enum Section {
     BadStates,
@@ -17,20 +20,20 @@ pub enum Section {
     Fairness,
 }
 
-/// Why no circuit is read.
+/// Why a text is no circuit, or one that this reader doesn't support. Offsets count bytes from 0.
 #[derive(Clone, Copy, Debug, PartialEq, Eq)]
 pub enum ReaderFault {
     /// A growth was refused.
     OutOfMemory,
-    /// No line, or not this one, may stand at this offset.
+    /// The line at this offset is none that may stand there.
     Syntax(usize),
     /// The digits at this offset write a number over 4,294,967,295.
     NumberTooLarge(usize),
     /// The header has more than 16,777,216 variables or outputs.
     TooLarge,
-    /// The header says that there are some.
+    /// The header says that the circuit has some.
     LeftOut(Section),
-    /// The latch at this position, from 0 on, doesn't start at 0.
+    /// The latch with this index, counted from 0, doesn't start at 0.
     Reset(usize),
 }
 
@@ -73,26 +76,57 @@ impl fmt::Display for ReaderFault {
 
 impl Error for ReaderFault {}
 
-/// Why the inputs and outputs of a circuit aren't tied to the propositions of an automaton. A number of a name counts from 0 among
-/// the propositions of its side; another number is a position.
-#[derive(Clone, Copy, Debug, PartialEq, Eq)]
+/// Why the inputs, or the outputs, of a circuit don't match the propositions of an automaton. A place counts from 0.
+#[derive(Debug, Drop)]
+pub enum SideFault {
+    /// No input has this name.
+    Missing(Name),
+    /// Two inputs have this name.
+    Twice(Name),
+    /// The input at this place has both names.
+    Shared(usize, Name, Name),
+    /// The input at this place has no name.
+    Nameless(usize),
+    /// The input at this place has this name, and no proposition has it.
+    Extra(usize, Name),
+    /// There are fewer inputs than propositions; this is the name of the first that is left.
+    Short(Name),
+    /// There are more inputs than propositions; this is the place of the first that is left.
+    Long(usize),
+}
+
+/// Why the inputs and outputs of a circuit don't match the propositions of an automaton.
+#[derive(Debug, Drop)]
 pub enum TieFault {
     /// A growth was refused.
     OutOfMemory,
     /// No input and no output has a name.
     NoSymbols,
-    /// No input has this name.
-    MissingInput(usize),
-    /// No output has this name.
-    MissingOutput(usize),
-    /// The input at this position has the name of no proposition.
-    ExtraInput(usize),
-    /// The output at this position has the name of no proposition.
-    ExtraOutput(usize),
-    /// Two inputs have this name, or an input has it and one before it.
-    InputNameTwice(usize),
-    /// Two outputs have this name, or an output has it and one before it.
-    OutputNameTwice(usize),
+    Inputs(SideFault),
+    Outputs(SideFault),
+}
+
+impl SideFault {
+    /// Writes why inputs don't match, or outputs, whose word is given.
+    fn write<W: fmt::Write>(&self, word: &str, f: &mut fmt::Formatter<W>) -> fmt::Result
+        ensures { WritesOnOk W.Write.write_str_gives f.old result (side_fault_text word.now self.now) f.new }
+    {
+        match self {
+            SideFault::Missing(name) => write!(f, "the circuit has no {word} named {name}"),
+            SideFault::Twice(name) => write!(f, "two {word}s are named {name}"),
+            SideFault::Shared(place, one, other) => write!(
+                f,
+                "{word} {place} is named {one} and {other}"
+            ),
+            SideFault::Nameless(place) => write!(f, "{word} {place} has no symbol"),
+            SideFault::Extra(place, name) => write!(
+                f,
+                "the circuit has an {word} more: {word} {place}, named {name}"
+            ),
+            SideFault::Short(name) => write!(f, "the circuit has no {word} for {name}"),
+            SideFault::Long(place) => write!(f, "the circuit has an {word} more: {word} {place}"),
+        }
+    }
 }
 
 impl fmt::Display for TieFault {
@@ -107,30 +141,8 @@ impl fmt::Display for TieFault {
             TieFault::NoSymbols => {
                 f.write_str("the inputs and outputs have no names; --by-place takes them in order")
             }
-            TieFault::MissingInput(name) => write!(
-                f,
-                "no input for proposition {name} of the inputs"
-            ),
-            TieFault::MissingOutput(name) => write!(
-                f,
-                "no output for proposition {name} of the outputs"
-            ),
-            TieFault::ExtraInput(place) => write!(
-                f,
-                "the circuit has an input more: input {place}"
-            ),
-            TieFault::ExtraOutput(place) => write!(
-                f,
-                "the circuit has an output more: output {place}"
-            ),
-            TieFault::InputNameTwice(name) => write!(
-                f,
-                "two inputs for proposition {name} of the inputs"
-            ),
-            TieFault::OutputNameTwice(name) => write!(
-                f,
-                "two outputs for proposition {name} of the outputs"
-            ),
+            TieFault::Inputs(fault) => fault.write("input", f),
+            TieFault::Outputs(fault) => fault.write("output", f),
         }
     }
 }
@@ -143,6 +155,16 @@ impl From<AllocError> for TieFault {
     ghost from_gives = { λ _ e. e ≡ ties.OutOfMemory };
 
     fn from(_e: AllocError) -> TieFault {
+        TieFault::OutOfMemory
+    }
+}
+
+impl<T: Drop> From<AllocFailed<T>> for TieFault {
+    ghost use Rattle.pg_aiger_reader.specs.declared.fault.TieFault.TheVariants as ties;
+
+    ghost from_gives = { λ _ e. e ≡ ties.OutOfMemory };
+
+    fn from(_e: AllocFailed<T>) -> TieFault {
         TieFault::OutOfMemory
     }
 }

@@ -1,8 +1,8 @@
 //! The first line: how a circuit is written, and how much of each there is.
 
 ghost use Rattle.std.specs.Prelude.{◌≡◌, IfOk, option_map};
-ghost use Rattle.pg_aiger_reader.specs.Mirrors.Steps.{Gives};
-ghost use Rattle.pg_aiger_reader.specs.Mirrors.Headers.{IsSmall, form_at, left_out, fits, header_of, header_at};
+ghost use Rattle.pg_aiger_reader.specs.Mirrors.Steps.{GivesAs};
+ghost use Rattle.pg_aiger_reader.specs.Mirrors.Headers.{IsSmall, form_at, left_out, fits, header_of, header_at, header_fault, fault_at};
 
 use crate::fault::{ReaderFault, Section};
 use crate::item::Form;
@@ -59,9 +59,9 @@ fn fits(form: Form, greatest: u32, inputs: u32, latches: u32, gates: u32) -> boo
 }
 
 /// What the numbers of the first line say.
-#[tactic(auto, unfolding(crate::specs::Mirrors::Headers::header_of))]
+#[tactic(auto, unfolding(crate::specs::Mirrors::Headers::header_of, crate::specs::Mirrors::Headers::header_fault))]
 fn header_of(form: Form, numbers: &[u32], left: usize) -> Result<Header, ReaderFault>
-    ensures read { Gives (λ x. x) result (header_of form numbers.now) }
+    ensures read { GivesAs (λ x. x) (header_fault numbers.now) result (header_of form numbers.now) }
     ensures small { IfOk result IsSmall }
 {
     match numbers {
@@ -89,9 +89,9 @@ fn header_of(form: Form, numbers: &[u32], left: usize) -> Result<Header, ReaderF
 }
 
 /// What the first line says, and what follows it.
-#[tactic(auto, unfolding(crate::specs::Mirrors::Headers::header_at))]
+#[tactic(auto, unfolding(crate::specs::Mirrors::Headers::header_at, crate::specs::Mirrors::Headers::fault_at))]
 pub(crate) fn read_header(alloc: Global, bytes: &[u8]) -> Result<(Header, &[u8]), ReaderFault>
-    ensures read { Gives (λ x. (x.0, x.1.now)) result (header_at bytes.now) }
+    ensures read { GivesAs (λ x. (x.0, x.1.now)) (fault_at bytes.now) result (header_at bytes.now) }
     ensures small { IfOk result (λ x. IsSmall x.0) }
 {
     match form(bytes) {

@@ -1,17 +1,20 @@
-//! Circuits as any tool writes them in the AIGER format: what a text says, and which input and output is which proposition of an
-//! automaton.
+//! Circuits in the AIGER format, from any tool: reading texts, and matching inputs and outputs to the propositions of
+//! an automaton.
 #![tactic(auto)]
 
 mod fault;
 mod header;
 mod item;
+pub mod laws;
+mod name;
 mod number;
 mod reader;
 mod sections;
 mod symbol;
 mod ties;
 
-pub use fault::{ReaderFault, Section, TieFault};
+pub use fault::{ReaderFault, Section, SideFault, TieFault};
+pub use name::Name;
 pub use pg_aiger::{Gate, Latch};
 pub use reader::{Parts, read_circuit};
 pub use symbol::{Kind, Symbol};

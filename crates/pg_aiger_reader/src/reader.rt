@@ -1,8 +1,8 @@
-//! Circuits from texts.
+//! Reading circuits.
 
 ghost use Rattle.std.specs.Prelude.{◌≡◌, IfOk, IfErr, ◌≢◌, Some, length, slice_get};
-ghost use Rattle.pg_aiger_reader.specs.Mirrors.Steps.{Gives};
-ghost use Rattle.pg_aiger_reader.specs.Mirrors.Reading.{behind_verdict, latches_at, parts_in, text_at};
+ghost use Rattle.pg_aiger_reader.specs.Mirrors.Steps.{GivesAs};
+ghost use Rattle.pg_aiger_reader.specs.Mirrors.Reading.{behind_verdict, latches_at, parts_in, reset_fault, text_at, text_fault};
 ghost use Rattle.pg_aiger_reader.specs.Views.{circuit_in, symbols_in};
 ghost use Rattle.pg_aiger_reader.specs.Texts.{IsRead};
 ghost use Rattle.pg_aiger_reader.specs.Faults.{Refuses};
@@ -15,7 +15,7 @@ use crate::symbol::{Symbol, symbols};
 use pg_aiger::{Gate, Latch};
 use std::alloc::Global;
 
-/// What a circuit's text says.
+/// The contents of a circuit's text.
 #[derive(Debug, Drop)]
 pub struct Parts<'a> {
     /// The greatest variable.
@@ -39,7 +39,7 @@ fn behind_verdict(bytes: &[u8]) -> &[u8]
 
 /// The latches of these lines, all of which are to be 0 at first.
 fn latches_of(alloc: Global, lines: &[LatchLine]) -> Result<Vec<Latch>, ReaderFault>
-    ensures { Gives (λ x. x.items) result (latches_at lines.now) }
+    ensures { GivesAs (λ x. x.items) (reset_fault 0 lines.now) result (latches_at lines.now) }
 {
     let mut latches = Vec::new(alloc);
     for position in 0..lines.len() {
@@ -56,9 +56,9 @@ fn latches_of(alloc: Global, lines: &[LatchLine]) -> Result<Vec<Latch>, ReaderFa
 }
 
 /// What a text says; offsets of faults count from the end.
-#[tactic(auto, unfolding(crate::specs::Mirrors::Reading::text_at))]
+#[tactic(auto, unfolding(crate::specs::Mirrors::Reading::text_at, crate::specs::Mirrors::Reading::text_fault))]
 fn read<'a>(alloc: Global, bytes: &'a [u8]) -> Result<Parts<'a>, ReaderFault>
-    ensures { Gives parts_in result (text_at bytes.now) }
+    ensures { GivesAs parts_in (text_fault bytes.now) result (text_at bytes.now) }
 {
     let (header, rest) = read_header(alloc, behind_verdict(bytes))?;
     let (sections, rest) = read_sections(alloc, &header, rest)?;
@@ -74,15 +74,16 @@ fn read<'a>(alloc: Global, bytes: &'a [u8]) -> Result<Parts<'a>, ReaderFault>
     })
 }
 
-/// Reads a circuit in the AIGER format, in ASCII (`aag`) or in the binary form (`aig`), as of 2007 or as of version 1.9. A first
-/// line `REALIZABLE` is passed over. Between the numbers of a line stands a single space, and each line ends with a newline alone.
-/// There are at most 16,777,216 variables and as many outputs.
+/// Reads a circuit in the AIGER format, in ASCII (`aag`) or binary (`aig`), of 2007 or version 1.9. It skips a first
+/// line `REALIZABLE`. The numbers of a line are separated by single spaces, and each line ends with a single newline.
+/// There are at most 16,777,216 variables, and at most 16,777,216 outputs.
 ///
-/// Whether each variable that is used is defined, once and not by way of itself, is left to who makes a circuit of the parts.
+/// It doesn't check whether each variable that is used is defined, only once and not through itself; the code that
+/// makes a circuit of the parts does.
 pub fn read_circuit(alloc: Global, bytes: &[u8]) -> Result<Parts<'_>, ReaderFault>
     // What is read is spelt so.
     ensures found { IfOk result (λ parts. IsRead bytes.now (circuit_in parts) (symbols_in parts)) }
-    // Where a text is refused it spells nothing, unless memory ran out.
+    // Where a text is refused it spells nothing, unless memory ran out; a fault by its name comes exactly if it is so.
     ensures refused { IfErr result (Refuses bytes.now) }
 {
     match read(alloc, bytes) {

@@ -24,7 +24,7 @@ pub enum Kind {
 #[derive(Clone, Copy, Debug)]
 pub struct Symbol<'a> {
     pub kind: Kind,
-    /// Which one of its kind, from 0 on.
+    /// Its index among its kind, from 0.
     pub position: u32,
     pub name: &'a [u8],
 }

@@ -1,19 +1,21 @@
 //! Which input and which output of a circuit is which proposition of an automaton.
 
-ghost use Rattle.std.specs.Prelude.{◌≡◌, ◌<◌, List, ℕ, length, map, All, IfOk, IfErr, IfSome, IsNone, MatchBool, Contains, true, false};
+ghost use Rattle.std.specs.Prelude.{◌≡◌, ◌==◌, ◌&&◌, ◌<◌, List, ℕ, length, map, get_or, All};
+ghost use Rattle.std.specs.Prelude.{IfOk, IfErr, IfSome, IsNone, MatchBool, MatchOption, MatchResult, Contains, true, false};
 ghost use Rattle.pg_aiger_reader.specs.Views.{kind_in, symbol_in, circuit_in, symbols_in};
 ghost use Rattle.pg_aiger.specs.Mirrors.Layouts.{names_until};
 ghost use Rattle.pg_hoa_automaton.specs.Automata.{IsAutomaton};
 ghost use Rattle.pg_aiger.specs.CircuitText.{latch};
 ghost use Rattle.pg_aiger.specs.CircuitText as text;
-ghost use Rattle.pg_aiger_reader.specs.Ties.{AreTied, IsTied, IsTieFault, literals_at};
-ghost use Rattle.pg_aiger_reader.specs.Mirrors.Places.{is_kind, noted, IsPlaceOf, AreGiven, IsSideFault, IsUneven, side_of_input, side_of_output, texts};
+ghost use Rattle.pg_aiger_reader.specs.Ties.{AreTied, IsTied, IsTieFault, IsSideFault, IsNameless, IsLeft, IsAt, IsFirstName, literals_at};
+ghost use Rattle.pg_aiger_reader.specs.Mirrors.Places.{is_kind, noted, IsPlaceOf, AreGiven, texts};
 
-use crate::fault::TieFault;
+use crate::fault::{SideFault, TieFault};
+use crate::name::Name;
 use crate::reader::Parts;
 use crate::symbol::{Kind, Symbol};
 use pg_hoa_automaton::Automaton;
-use std::alloc::{AllocError, AllocFailed, Global};
+use std::alloc::{AllocError, Global};
 
 /// Where symbols give a name.
 #[derive(Clone, Copy, Debug)]
@@ -21,35 +23,6 @@ pub(crate) enum Place {
     Missing,
     At(usize),
     Twice,
-}
-
-/// Why the names of one side don't fit what has them.
-#[derive(Clone, Copy, Debug)]
-pub(crate) enum SideFault {
-    OutOfMemory,
-    Missing(usize),
-    Extra(usize),
-    Twice(usize),
-}
-
-impl From<AllocError> for SideFault {
-    ghost use Rattle.pg_aiger_reader.specs.declared.ties.SideFault.TheVariants.{OutOfMemory};
-
-    ghost from_gives = { λ _ e. e ≡ OutOfMemory };
-
-    fn from(_e: AllocError) -> SideFault {
-        SideFault::OutOfMemory
-    }
-}
-
-impl<T: Drop> From<AllocFailed<T>> for SideFault {
-    ghost use Rattle.pg_aiger_reader.specs.declared.ties.SideFault.TheVariants.{OutOfMemory};
-
-    ghost from_gives = { λ _ e. e ≡ OutOfMemory };
-
-    fn from(_e: AllocFailed<T>) -> SideFault {
-        SideFault::OutOfMemory
-    }
 }
 
 fn is_kind(one: Kind, other: Kind) -> bool
@@ -87,10 +60,12 @@ fn place_of(kind: Kind, count: usize, symbols: &[Symbol<'_>], name: &[u8]) -> Pl
     found
 }
 
-fn has(places: &[usize], place: usize) -> bool
-    ensures { MatchBool result (Contains places.now place) (Contains places.now place → ⊥) }
+/// Which of the places this one is.
+fn position_of(places: &[usize], place: usize) -> Option<usize>
+    ensures some { IfSome result (λ j. (j < length places.now) × (get_or places.now j 0 ≡ place)) }
+    ensures none { IsNone result → Contains places.now place → ⊥ }
 {
-    places.contains(&place)
+    places.iter().position(|p| *p == place)
 }
 
 /// Where the symbols give each of the names.
@@ -100,38 +75,76 @@ fn places_of(
     count: usize,
     symbols: &[Symbol<'_>],
     names: &[&[u8]],
-) -> Result<Vec<usize>, SideFault>
-    ensures given { IfOk result (λ x. AreGiven (kind_in kind) count (map symbol_in symbols.now) (texts names.now) (length names.now) x.items) }
-    ensures refused { (literals : List ℕ) → length literals ≡ count
-        → IfErr result (IsSideFault false (kind_in kind) (map symbol_in symbols.now) (texts names.now) literals) }
+) -> Result<Result<Vec<usize>, SideFault>, AllocError>
+    ensures { IfOk result (λ r. MatchResult r
+        (λ x. AreGiven (kind_in kind) count (map symbol_in symbols.now) (texts names.now) (length names.now) x.items)
+        (IsSideFault false (kind_in kind) count (map symbol_in symbols.now) (texts names.now))) }
 {
     let mut places = Vec::new(alloc);
     for k in 0..names.len() {
         match place_of(kind, count, symbols, names[k]) {
-            Place::Missing => return Err(SideFault::Missing(k)),
-            Place::Twice => return Err(SideFault::Twice(k)),
+            Place::Missing => return Ok(Err(SideFault::Missing(Name::of(alloc, names[k])?))),
+            Place::Twice => return Ok(Err(SideFault::Twice(Name::of(alloc, names[k])?))),
             Place::At(place) => {
-                if has(&places, place) {
-                    return Err(SideFault::Twice(k));
+                if let Some(j) = position_of(&places, place) {
+                    let one = Name::of(alloc, names[j])?;
+                    let other = Name::of(alloc, names[k])?;
+                    return Ok(Err(SideFault::Shared(place, one, other)));
                 }
                 places.push(place)?;
             }
         }
     }
-    Ok(places)
+    Ok(Ok(places))
 }
 
 /// The first of so many positions that isn't among the places.
-fn extra(places: &[usize], count: usize) -> Option<usize>
-    ensures some { IfSome result (λ p. (p < count) × (Contains places.now p → ⊥)) }
+fn left(places: &[usize], count: usize) -> Option<usize>
+    ensures some { IfSome result (λ p. (p < count) × (Contains places.now p → ⊥) × ((q : ℕ) → q < p → Contains places.now q)) }
     ensures none { IsNone result → (p : ℕ) → p < count → Contains places.now p }
 {
     for p in 0..count {
-        if !has(places, p) {
+        let Some(_) = position_of(places, p) else {
             return Some(p);
+        };
+    }
+    None
+}
+
+/// Whether the symbol is one of the place.
+fn is_at(symbol: &Symbol<'_>, kind: Kind, place: usize) -> bool
+    ensures { result ≡ (is_kind (kind_in symbol.now.kind) (kind_in kind) && symbol.now.position == place) }
+{
+    is_kind(symbol.kind, kind) && symbol.position as usize == place
+}
+
+/// The name that the first symbol of a place gives it.
+fn first_name<'a>(kind: Kind, symbols: &[Symbol<'a>], place: usize) -> Option<&'a [u8]>
+    ensures { MatchOption result ((s : text.Symbol) → Contains (map symbol_in symbols.now) s → ¬ IsAt (kind_in kind) place s)
+        (λ name. IsFirstName (kind_in kind) place (map symbol_in symbols.now) name.now) }
+{
+    for i in 0..symbols.len() {
+        if is_at(&symbols[i], kind, place) {
+            return Some(symbols[i].name);
         }
     }
     None
+}
+
+/// Why a place that no proposition has is too many.
+fn too_many(
+    alloc: Global,
+    kind: Kind,
+    symbols: &[Symbol<'_>],
+    place: usize,
+) -> Result<SideFault, AllocError>
+    ensures { (count : ℕ) (names : List (List ℕ)) → IsLeft (kind_in kind) count (map symbol_in symbols.now) names place
+        → IfOk result (IsSideFault false (kind_in kind) count (map symbol_in symbols.now) names) }
+{
+    match first_name(kind, symbols, place) {
+        None => Ok(SideFault::Nameless(place)),
+        Some(name) => Ok(SideFault::Extra(place, Name::of(alloc, name)?)),
+    }
 }
 
 /// The literals at these places.
@@ -153,29 +166,37 @@ fn by_symbols(
     symbols: &[Symbol<'_>],
     names: &[&[u8]],
     literals: &[u32],
-) -> Result<Vec<u32>, SideFault>
-    ensures tied { IfOk result (λ x. AreTied false (kind_in kind) (map symbol_in symbols.now) (texts names.now) literals.now x.items) }
-    ensures refused { IfErr result (IsSideFault false (kind_in kind) (map symbol_in symbols.now) (texts names.now) literals.now) }
+) -> Result<Result<Vec<u32>, SideFault>, AllocError>
+    ensures { IfOk result (λ r. MatchResult r
+        (λ x. AreTied false (kind_in kind) (map symbol_in symbols.now) (texts names.now) literals.now x.items)
+        (IsSideFault false (kind_in kind) (length literals.now) (map symbol_in symbols.now) (texts names.now))) }
 {
-    let places = places_of(alloc, kind, literals.len(), symbols, names)?;
-    match extra(&places, literals.len()) {
-        Some(place) => Err(SideFault::Extra(place)),
-        None => Ok(selected(alloc, literals, &places)?),
+    match places_of(alloc, kind, literals.len(), symbols, names)? {
+        Err(fault) => Ok(Err(fault)),
+        Ok(places) => match left(&places, literals.len()) {
+            Some(place) => Ok(Err(too_many(alloc, kind, symbols, place)?)),
+            None => Ok(Ok(selected(alloc, literals, &places)?)),
+        },
     }
 }
 
 /// The literals as they stand, if there are as many as names.
-fn in_order(literals: Vec<u32>, names: usize) -> Result<Vec<u32>, SideFault>
-    ensures same { IfOk result (λ x. (length literals.items ≡ names) × (x.items ≡ literals.items)) }
-    ensures refused { IfErr result (IsUneven names (length literals.items)) }
+fn in_order(
+    alloc: Global,
+    names: &[&[u8]],
+    literals: Vec<u32>,
+) -> Result<Result<Vec<u32>, SideFault>, AllocError>
+    ensures { (kind : text.Kind) (symbols : List text.Symbol) → IfOk result (λ r. MatchResult r
+        (λ x. AreTied true kind symbols (texts names.now) literals.items x.items)
+        (IsSideFault true kind (length literals.items) symbols (texts names.now))) }
 {
-    if literals.len() < names {
-        return Err(SideFault::Missing(literals.len()));
+    if literals.len() < names.len() {
+        return Ok(Err(SideFault::Short(Name::of(alloc, names[literals.len()])?)));
     }
-    if names < literals.len() {
-        return Err(SideFault::Extra(names));
+    if names.len() < literals.len() {
+        return Ok(Err(SideFault::Long(names.len())));
     }
-    Ok(literals)
+    Ok(Ok(literals))
 }
 
 /// The literals of one side in the order of its names.
@@ -186,20 +207,22 @@ fn side(
     symbols: &[Symbol<'_>],
     names: &[&[u8]],
     literals: Vec<u32>,
-) -> Result<Vec<u32>, SideFault>
-    ensures tied { IfOk result (λ x. AreTied by_place (kind_in kind) (map symbol_in symbols.now) (texts names.now) literals.items x.items) }
-    ensures refused { IfErr result (IsSideFault by_place (kind_in kind) (map symbol_in symbols.now) (texts names.now) literals.items) }
+) -> Result<Result<Vec<u32>, SideFault>, AllocError>
+    ensures { IfOk result (λ r. MatchResult r
+        (λ x. AreTied by_place (kind_in kind) (map symbol_in symbols.now) (texts names.now) literals.items x.items)
+        (IsSideFault by_place (kind_in kind) (length literals.items) (map symbol_in symbols.now) (texts names.now))) }
 {
     if by_place {
-        in_order(literals, names.len())
+        in_order(alloc, names, literals)
     } else {
         by_symbols(alloc, kind, symbols, names, &literals)
     }
 }
 
-/// Whether no input and no output has a name.
-fn is_nameless(symbols: &[Symbol<'_>]) -> bool
-    ensures { result ≡ true → (s : text.Symbol) → Contains (map symbol_in symbols.now) s → s.kind ≡ latch }
+/// Whether no symbol is one of an input or an output.
+fn has_latches_alone(symbols: &[Symbol<'_>]) -> bool
+    ensures { MatchBool result ((s : text.Symbol) → Contains (map symbol_in symbols.now) s → s.kind ≡ latch)
+        (((s : text.Symbol) → Contains (map symbol_in symbols.now) s → s.kind ≡ latch) → ⊥) }
 {
     for i in 0..symbols.len() {
         if !is_kind(symbols[i].kind, Kind::Latch) {
@@ -207,6 +230,17 @@ fn is_nameless(symbols: &[Symbol<'_>]) -> bool
         }
     }
     true
+}
+
+/// Whether names are asked for, there are inputs or outputs, and none of them has a name.
+fn is_nameless(by_place: bool, inputs: &[u32], outputs: &[u32], symbols: &[Symbol<'_>]) -> bool
+    ensures { MatchBool result (IsNameless by_place inputs.now outputs.now (map symbol_in symbols.now))
+        (IsNameless by_place inputs.now outputs.now (map symbol_in symbols.now) → ⊥) }
+{
+    if by_place || (inputs.is_empty() && outputs.is_empty()) {
+        return false;
+    }
+    has_latches_alone(symbols)
 }
 
 /// The names of the propositions that the controller sets, or of the others.
@@ -227,33 +261,9 @@ fn names_of(
     Ok(names)
 }
 
-/// Why the inputs aren't tied.
-fn of_inputs(fault: SideFault) -> TieFault
-    ensures { result ≡ side_of_input fault }
-{
-    match fault {
-        SideFault::OutOfMemory => TieFault::OutOfMemory,
-        SideFault::Missing(name) => TieFault::MissingInput(name),
-        SideFault::Extra(place) => TieFault::ExtraInput(place),
-        SideFault::Twice(name) => TieFault::InputNameTwice(name),
-    }
-}
-
-/// Why the outputs aren't tied.
-fn of_outputs(fault: SideFault) -> TieFault
-    ensures { result ≡ side_of_output fault }
-{
-    match fault {
-        SideFault::OutOfMemory => TieFault::OutOfMemory,
-        SideFault::Missing(name) => TieFault::MissingOutput(name),
-        SideFault::Extra(place) => TieFault::ExtraOutput(place),
-        SideFault::Twice(name) => TieFault::OutputNameTwice(name),
-    }
-}
-
-/// The circuit with its inputs and outputs in the order of the automaton's propositions: by the names that symbols give them, or
-/// `by_place` as they stand. Each proposition of the environment has one input of its own, each of the controller one output, and
-/// none is left over.
+/// Returns the circuit with its inputs and outputs in the order of the automaton's propositions. It matches them by the
+/// names that the symbols give, or, with `by_place`, by their order. Each proposition of the environment has an input
+/// of its own and each of the controller an output, and none is left over.
 pub fn tie<'a>(
     alloc: Global,
     automaton: &Automaton,
@@ -273,18 +283,18 @@ pub fn tie<'a>(
         gates,
         symbols,
     } = parts;
-    if !by_place && is_nameless(&symbols) {
+    if is_nameless(by_place, &inputs, &outputs, &symbols) {
         return Err(TieFault::NoSymbols);
     }
     let names = names_of(alloc, automaton, false)?;
-    let inputs = match side(alloc, by_place, Kind::Input, &symbols, &names, inputs) {
+    let inputs = match side(alloc, by_place, Kind::Input, &symbols, &names, inputs)? {
         Ok(inputs) => inputs,
-        Err(fault) => return Err(of_inputs(fault)),
+        Err(fault) => return Err(TieFault::Inputs(fault)),
     };
     let names = names_of(alloc, automaton, true)?;
-    let outputs = match side(alloc, by_place, Kind::Output, &symbols, &names, outputs) {
+    let outputs = match side(alloc, by_place, Kind::Output, &symbols, &names, outputs)? {
         Ok(outputs) => outputs,
-        Err(fault) => return Err(of_outputs(fault)),
+        Err(fault) => return Err(TieFault::Outputs(fault)),
     };
     Ok(Parts {
         greatest,

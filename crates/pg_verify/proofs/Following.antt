@@ -10,8 +10,9 @@ use Rattle.pg_synth.specs.Letters.{joined, inputs}
 use Rattle.pg_synth.specs.Machines.{IsInputWord}
 use Rattle.pg_aiger.specs.declared.gate.Latch.{Latch}
 use Rattle.pg_aiger.specs.Circuits.{Circuit}
-use Rattle.pg_aiger.specs.Runs.{Valuation, value, bit, IsRun, IsWordOf, current, number_of}
+use Rattle.pg_aiger.specs.Runs.{Valuation, value, bit, GoesOn, IsRun, IsWordOf, current, number_of}
 use Rattle.pg_aiger_netlist.specs.Netlists.{HasOneRun}
+use Rattle.pg_aiger_netlist.proofs.Steps.{goes_on}
 use Rattle.pg_aiger.proofs.Follows.{current_at}
 use Rattle.pg_aiger.proofs.Numbers.{number_is}
 use Rattle.pg_verify.specs.Mirrors.Products.{Pair, pair_at, Leads, IsMove, IsProductOf}
@@ -75,6 +76,9 @@ go_on a circuit p input word is inputs_in many one words t k at =
     move : IsMove a circuit is.pairs k (input t) (next p k (input t))
     move = is.moves k (input t) at.number_in (inputs_in t)
 
+    on : GoesOn circuit (pair_at is.pairs k).latches (input t) move.output move.latches
+    on = goes_on circuit (pair_at is.pairs k).latches (input t) move.output move.latches move.gives
+
     run : ℕ → Valuation
     run = (one.some (suc (suc t))).0
 
@@ -83,7 +87,7 @@ go_on a circuit p input word is inputs_in many one words t k at =
 
     letter : word t ≡ joined a.controllable (input t) move.output
     letter = word_at a circuit input word t move.output run inputs_in many words r
-        (move.goes_on input (suc (suc t)) t run r (omega arith) (at.latches (suc (suc t)) run r (omega arith)) refl).0
+        (on input (suc (suc t)) t run r (omega arith) (at.latches (suc (suc t)) run r (omega arith)) refl).0
 
     automaton_step : step_at a word t ≡ next a (pair_at is.pairs k).state (joined a.controllable (input t) move.output)
     automaton_step = ap (λ o. step_from a o (word t)) at.of_automaton ∙ ap (next a (pair_at is.pairs k).state) letter
@@ -106,7 +110,7 @@ go_on a circuit p input word is inputs_in many one words t k at =
           of_product = ap target_of (f ∙ h);
           of_automaton = ap target_of e ∙ ap (λ (x : Pair). Some x.state) (sym there);
           latches = λ count run r lt.
-              sym ((move.goes_on input count t run r (omega arith) (at.latches count run r (omega arith)) refl).1 lt)
+              sym ((on input count t run r (omega arith) (at.latches count run r (omega arith)) refl).1 lt)
               ∙ ap (λ (x : Pair). x.latches) (sym there);
         },
       );

@@ -30,7 +30,7 @@ same_numbers circuit u v literals same within = number_same u v literals literal
     same_literal u v (get_or literals j 0) (same (variable (get_or literals j 0)) (within (get_or literals j 0) (Contains-get_or literals j 0 l))))
 
 -- the word of a circuit
-the_word : (circuit : Circuit) (controllable : List Bool) (input : ℕ → ℕ) → IsAcyclic circuit → (word : ℕ → ℕ) × IsWordOf circuit controllable input word
+pub the_word : (circuit : Circuit) (controllable : List Bool) (input : ℕ → ℕ) → IsAcyclic circuit → (word : ℕ → ℕ) × IsWordOf circuit controllable input word
 the_word circuit controllable input ac = (
   (λ t. letter_of circuit controllable ((one.some (suc t)).0 t)),
   λ t run r.

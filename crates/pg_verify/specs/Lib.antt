@@ -1,3 +1,5 @@
 pub mod Verdicts
+pub mod Reached
+pub mod Products
 pub mod Laws
 pub mod Mirrors

@@ -1,5 +1,8 @@
 //! Why there is no product.
 
+ghost use Rattle.std.specs.Prelude.{◌≡◌};
+ghost use Rattle.pg_verify.specs.declared.fault.VerifyFault.TheVariants.{OutOfMemory};
+
 use std::alloc::{AllocError, AllocFailed};
 use thiserror::Error;
 
@@ -9,18 +12,22 @@ pub enum VerifyFault {
     /// A growth was refused.
     #[error("out of memory")]
     OutOfMemory,
-    /// The product has more than 65,535 states, or more than 16,777,216 states times input letters.
+    /// More than 65,535 states are reached, or more than 16,777,216 states times input letters.
     #[error("product of circuit and automaton too large")]
     TooLarge,
 }
 
 impl From<AllocError> for VerifyFault {
+    ghost from_gives = { λ _ e. e ≡ OutOfMemory };
+
     fn from(_e: AllocError) -> VerifyFault {
         VerifyFault::OutOfMemory
     }
 }
 
 impl<T: Drop> From<AllocFailed<T>> for VerifyFault {
+    ghost from_gives = { λ _ e. e ≡ OutOfMemory };
+
     fn from(_e: AllocFailed<T>) -> VerifyFault {
         VerifyFault::OutOfMemory
     }

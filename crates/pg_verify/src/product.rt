@@ -1,97 +1,35 @@
 //! The product of a circuit and an automaton: an automaton over the input letters alone.
 
-ghost use Rattle.std.specs.Prelude.{◌≡◌, ◌≢◌, ℕ, ◌+◌, ◌*◌, ◌^◌, ◌%◌, ◌<◌, ◌≤◌, ◌++◌, ◌∷◌, [], true, false, map, length, replicate, All, IfOk, OnOk};
+ghost use Rattle.std.specs.Prelude.{◌≡◌, ◌≢◌, ℕ, ◌+◌, ◌*◌, ◌/◌, ◌^◌, ◌%◌, ◌<◌, ◌≤◌, ◌++◌, ◌∷◌, [], false, min, map, length, replicate, All, IfOk, IfErr, IfSome, OnOk};
 ghost use Rattle.pg_hoa_automaton.specs.Automata.{IsAutomaton, next};
 ghost use Rattle.pg_synth.specs.Letters.{inputs, outputs};
+ghost use Rattle.pg_aiger_netlist.specs.Netlists.{IsAcyclic};
 ghost use Rattle.pg_aiger_netlist.specs.Steps.{spelt, AreValues};
-ghost use Rattle.pg_verify.specs.Mirrors.Products.{pair, pair_of, pair_at, Extends, AreWide, AreFilled, IsNumbered, IsPut, IsDraft, IsProductOf, same_names};
+ghost use Rattle.pg_verify.specs.Reached.{HasTooManyStates, HasNoProduct};
+ghost use Rattle.pg_verify.specs.Mirrors.Products.{pair, pair_of, pair_at, Extends, AreWide, AreFilled, IsNumbered, IsPut, IsDraft, same_names};
+ghost use Rattle.pg_verify.specs.Products.{IsProductOf};
 
 use crate::fault::VerifyFault;
 use crate::letters::{count_inputs, count_letters, joined, marks};
+use crate::rows::{Row, listed, number_of, set_row};
 use crate::table::store;
+use indexmap::IndexSet;
 use pg_aiger_netlist::Netlist;
 use pg_hoa_automaton::{Automaton, Stored, Table};
 use std::alloc::{AllocError, Global};
 use std::collections::BTreeMap;
 
-const MAX_STATES: usize = 65_535;
-
-/// A state of the product.
-#[derive(Debug, Drop)]
-pub(crate) struct Row {
-    /// The values of the circuit's latches.
-    pub latches: Vec<bool>,
-    /// The automaton's state.
-    pub state: u32,
-}
-
-/// The states so far by their numbers, and their steps, state by state and input letter by input letter.
+/// The states so far, each once, and their steps, state by state and input letter by input letter.
 #[derive(Drop)]
 struct Draft {
-    rows: Vec<Row>,
+    rows: IndexSet<Row>,
+    /// The state that is looked for.
+    wanted: Row,
     slots: Vec<u32>,
     steps: Vec<Stored>,
     lists: Vec<Vec<u32>>,
-    /// Numbers of states that may be known.
-    known: BTreeMap<u64, u32>,
-}
-
-/// Whether the values are the same.
-fn is_same_row(a: &[bool], b: &[bool]) -> bool
-    ensures { result ≡ true → a.now ≡ b.now }
-{
-    if a.len() != b.len() {
-        return false;
-    }
-    for (place, value) in a.iter().enumerate() {
-        if *value != b[place] {
-            return false;
-        }
-    }
-    true
-}
-
-/// A number that differs for most states.
-fn key_of(latches: &[bool], state: u32) -> u64 {
-    let mut key = state as u64;
-    for latch in latches {
-        key = key
-            .wrapping_mul(2)
-            .wrapping_add(*latch as u64)
-            .wrapping_mul(1_099_511_628_211);
-    }
-    key
-}
-
-/// The number of a state, which is put behind the others if it has none. Nothing is believed of the known numbers.
-fn number_of(
-    alloc: Global,
-    rows: &mut Vec<Row>,
-    known: &mut BTreeMap<u64, u32>,
-    latches: &[bool],
-    state: u32,
-) -> Result<u32, VerifyFault>
-    ensures number { IfOk result (λ n. IsNumbered (map pair_of rows.old.items) (spelt latches.now) state n (map pair_of rows.new.items)) }
-    ensures wide { (width : ℕ) → length latches.now ≡ width → AreWide width rows.old.items → OnOk result (AreWide width rows.new.items) }
-{
-    let key = key_of(latches, state);
-    if let Some(number) = known.get(&key).copied() {
-        if let Some(row) = rows.get(number as usize) {
-            if row.state == state && is_same_row(&row.latches, latches) {
-                return Ok(number);
-            }
-        }
-    }
-    let number = rows.len();
-    if number >= MAX_STATES {
-        return Err(VerifyFault::TooLarge);
-    }
-    known.insert(key, number as u32)?;
-    rows.push(Row {
-        latches: Vec::from_slice(alloc, latches)?,
-        state,
-    })?;
-    Ok(number as u32)
+    /// Places of lists that may be known.
+    listed: BTreeMap<Vec<u32>, u32>,
 }
 
 /// The slot for the step that the automaton's step makes with these latches.
@@ -102,18 +40,30 @@ fn slot_for(
     latches: &[bool],
     state: u32,
     letter: u32,
-) -> Result<u32, VerifyFault>
-    ensures put { IfOk result (λ slot. IsPut (map pair_of draft.old.rows.items) (map pair_of draft.new.rows.items) draft.old.steps.items
+) -> Result<u32, AllocError>
+    requires few_rows { length draft.old.rows.keys < 4294967295 }
+    requires few_steps { length draft.old.steps.items < 4294967295 }
+    requires few_lists { length draft.old.lists.items < 4294967295 }
+    ensures put { IfOk result (λ slot. IsPut (map pair_of draft.old.rows.keys) (map pair_of draft.new.rows.keys) draft.old.steps.items
         draft.new.steps.items (map (λ v. v.items) draft.old.lists.items) (map (λ v. v.items) draft.new.lists.items) (spelt latches.now)
         (next automaton.now state letter) slot) }
     ensures slots { OnOk result (draft.new.slots.items ≡ draft.old.slots.items) }
-    ensures wide { (width : ℕ) → length latches.now ≡ width → AreWide width draft.old.rows.items → OnOk result (AreWide width draft.new.rows.items) }
+    ensures wide { (width : ℕ) → length latches.now ≡ width → AreWide width draft.old.rows.keys → OnOk result (AreWide width draft.new.rows.keys) }
+    ensures one_row { OnOk result (length draft.new.rows.keys ≤ length draft.old.rows.keys + 1) }
 {
     match automaton.next(state, letter) {
         None => Ok(0),
         Some((target, sets)) => {
-            let number = number_of(alloc, &mut draft.rows, &mut draft.known, latches, target)?;
-            let slot = store(alloc, &mut draft.steps, &mut draft.lists, number, sets)?;
+            set_row(&mut draft.wanted, latches, target)?;
+            let number = number_of(alloc, &mut draft.rows, &draft.wanted)?;
+            let slot = store(
+                alloc,
+                &mut draft.steps,
+                &mut draft.lists,
+                &mut draft.listed,
+                number,
+                sets,
+            )?;
             Ok(slot)
         }
     }
@@ -130,26 +80,31 @@ fn push_step(
     latches: &mut [bool],
     k: usize,
     input: u32,
-) -> Result<(), VerifyFault>
+) -> Result<(), AllocError>
     requires automaton { IsAutomaton automaton.now }
+    requires acyclic { IsAcyclic netlist.now }
     requires marks { controllable.now ≡ automaton.now.controllable }
     requires outputs { length netlist.now.outputs ≡ outputs automaton.now.controllable }
-    requires draft { IsDraft automaton.now netlist.now (map pair_of draft.old.rows.items) draft.old.slots.items draft.old.steps.items
+    requires draft { IsDraft automaton.now netlist.now (map pair_of draft.old.rows.keys) draft.old.slots.items draft.old.steps.items
         (map (λ v. v.items) draft.old.lists.items) }
-    requires wide { AreWide (length netlist.now.latches) draft.old.rows.items }
+    requires wide { AreWide (length netlist.now.latches) draft.old.rows.keys }
     requires input { input < 2 ^ inputs automaton.now.controllable }
-    requires state { k < length draft.old.rows.items }
+    requires state { k < length draft.old.rows.keys }
+    requires few_rows { length draft.old.rows.keys < 4294967295 }
+    requires few_slots { length draft.old.slots.items < 4294967295 }
     requires place { length draft.old.slots.items ≡ k * 2 ^ inputs automaton.now.controllable + input }
     requires room { length values.now ≡ netlist.now.greatest + 1 }
     requires latches { length latches.old ≡ length netlist.now.latches }
-    requires values { AreValues netlist.now (pair_at (map pair_of draft.old.rows.items) k).latches input (input % 64) values.now }
-    ensures draft { OnOk result (IsDraft automaton.now netlist.now (map pair_of draft.new.rows.items) draft.new.slots.items
+    requires values { AreValues netlist.now (pair_at (map pair_of draft.old.rows.keys) k).latches input (input % 64) values.now }
+    ensures draft { OnOk result (IsDraft automaton.now netlist.now (map pair_of draft.new.rows.keys) draft.new.slots.items
         draft.new.steps.items (map (λ v. v.items) draft.new.lists.items)) }
-    ensures wide { OnOk result (AreWide (length netlist.now.latches) draft.new.rows.items) }
-    ensures grown { OnOk result (Extends (map pair_of draft.old.rows.items) (map pair_of draft.new.rows.items)) }
+    ensures wide { OnOk result (AreWide (length netlist.now.latches) draft.new.rows.keys) }
+    ensures grown { OnOk result (Extends (map pair_of draft.old.rows.keys) (map pair_of draft.new.rows.keys)) }
+    ensures one_row { OnOk result (length draft.new.rows.keys ≤ length draft.old.rows.keys + 1) }
     ensures place { OnOk result (length draft.new.slots.items ≡ length draft.old.slots.items + 1) }
 {
-    let state = draft.rows[k].state;
+    let rows = listed(&draft.rows);
+    let state = rows[k].state;
     let output = netlist.output(values, input % 64);
     netlist.next(values, input % 64, latches);
     let letter = joined(controllable, input, output);
@@ -184,28 +139,31 @@ fn push_state(
     latches: &mut [bool],
     k: usize,
     letters: u32,
-) -> Result<(), VerifyFault>
+) -> Result<(), AllocError>
     requires automaton { IsAutomaton automaton.now }
+    requires acyclic { IsAcyclic netlist.now }
     requires marks { controllable.now ≡ automaton.now.controllable }
     requires inputs { length netlist.now.inputs ≡ inputs automaton.now.controllable }
     requires outputs { length netlist.now.outputs ≡ outputs automaton.now.controllable }
     requires letters { letters ≡ 2 ^ inputs automaton.now.controllable }
     requires few { letters ≤ 65536 }
-    requires draft { IsDraft automaton.now netlist.now (map pair_of draft.old.rows.items) draft.old.slots.items draft.old.steps.items
+    requires draft { IsDraft automaton.now netlist.now (map pair_of draft.old.rows.keys) draft.old.slots.items draft.old.steps.items
         (map (λ v. v.items) draft.old.lists.items) }
-    requires wide { AreWide (length netlist.now.latches) draft.old.rows.items }
-    requires state { k < length draft.old.rows.items }
+    requires wide { AreWide (length netlist.now.latches) draft.old.rows.keys }
+    requires state { k < length draft.old.rows.keys }
+    requires few_rows { length draft.old.rows.keys ≤ 65535 }
     requires place { length draft.old.slots.items ≡ k * letters }
     requires room { length values.old ≡ netlist.now.greatest + 1 }
     requires latches { length latches.old ≡ length netlist.now.latches }
-    ensures draft { OnOk result (IsDraft automaton.now netlist.now (map pair_of draft.new.rows.items) draft.new.slots.items
+    ensures draft { OnOk result (IsDraft automaton.now netlist.now (map pair_of draft.new.rows.keys) draft.new.slots.items
         draft.new.steps.items (map (λ v. v.items) draft.new.lists.items)) }
-    ensures wide { OnOk result (AreWide (length netlist.now.latches) draft.new.rows.items) }
-    ensures state { OnOk result (k < length draft.new.rows.items) }
+    ensures wide { OnOk result (AreWide (length netlist.now.latches) draft.new.rows.keys) }
+    ensures state { OnOk result (k < length draft.new.rows.keys) }
     ensures place { OnOk result (length draft.new.slots.items ≡ (k + 1) * letters) }
 {
     for input in 0..letters {
-        fill(netlist, &draft.rows, k, input, values);
+        let rows = listed(&draft.rows);
+        fill(netlist, rows, k, input, values);
         push_step(
             alloc,
             automaton,
@@ -235,20 +193,28 @@ fn first_row(alloc: Global, latches: usize, state: u32) -> Result<Row, AllocErro
 
 /// The initial state alone.
 fn first_draft(alloc: Global, latches: usize, state: u32) -> Result<Draft, AllocError>
-    ensures wide { IfOk result (λ draft. AreWide latches draft.rows.items) }
-    ensures first { IfOk result (λ draft. map pair_of draft.rows.items ≡ pair 0 state ∷ []) }
-    ensures slots { IfOk result (λ draft. draft.slots.items ≡ []) }
+    ensures wide { IfOk result (λ draft. AreWide latches draft.rows.keys) }
+    ensures first { IfOk result (λ draft. map pair_of draft.rows.keys ≡ pair 0 state ∷ []) }
+    ensures empty { IfOk result (λ draft. (draft.slots.items ≡ []) × (draft.steps.items ≡ []) × (draft.lists.items ≡ [])) }
 {
-    let row = first_row(alloc, latches, state)?;
-    let mut rows = Vec::new(alloc);
-    rows.push(row)?;
+    let mut rows = IndexSet::new(alloc);
+    rows.insert(first_row(alloc, latches, state)?)?;
     Ok(Draft {
         rows,
+        wanted: first_row(alloc, latches, state)?,
         slots: Vec::new(alloc),
         steps: Vec::new(alloc),
         lists: Vec::new(alloc),
-        known: BTreeMap::new(alloc),
+        listed: BTreeMap::new(alloc),
     })
+}
+
+/// How many states a product may have.
+fn most_states(letters: u32) -> u32
+    requires { 0 < letters }
+    ensures { result ≡ min 65535 (16777216 / letters) }
+{
+    (16_777_216 / letters).min(65_535)
 }
 
 /// The steps of all states that are met from the initial one on.
@@ -265,22 +231,23 @@ fn explore(
     requires outputs { length netlist.now.outputs ≡ outputs automaton.now.controllable }
     requires letters { letters ≡ 2 ^ inputs automaton.now.controllable }
     requires few { letters ≤ 65536 }
-    ensures draft { IfOk result (λ draft. IsDraft automaton.now netlist.now (map pair_of draft.rows.items) draft.slots.items
+    ensures draft { IfOk result (λ draft. IsDraft automaton.now netlist.now (map pair_of draft.rows.keys) draft.slots.items
         draft.steps.items (map (λ v. v.items) draft.lists.items)) }
-    ensures whole { IfOk result (λ draft. length draft.slots.items ≡ length draft.rows.items * letters) }
-    ensures few { IfOk result (λ draft. (length draft.rows.items ≤ 65535) × (length draft.rows.items * letters ≤ 16777216)) }
+    ensures whole { IfOk result (λ draft. length draft.slots.items ≡ length draft.rows.keys * letters) }
+    ensures few { IfOk result (λ draft. length draft.rows.keys ≤ min 65535 (16777216 / letters)) }
+    ensures refused { IfErr result (HasNoProduct automaton.now netlist.now) }
 {
     let mut row = netlist.row(alloc)?;
     let values = row.as_mut_slice();
-    let mut next = vec![in alloc; false; netlist.latches()]?;
+    let width = netlist.latches();
+    let mut next = vec![in alloc; false; width]?;
     let latches = next.as_mut_slice();
-    let mut draft = first_draft(alloc, netlist.latches(), automaton.start())?;
-    for k in 0..MAX_STATES {
-        if k == draft.rows.len() {
-            if k * letters as usize > 16_777_216 {
-                return Err(VerifyFault::TooLarge);
-            }
-            return Ok(draft);
+    let most = most_states(letters) as usize;
+    let mut draft = first_draft(alloc, width, automaton.start())?;
+    let mut k = 0;
+    'states: while k < listed(&draft.rows).len() {
+        if listed(&draft.rows).len() > most {
+            return Err(VerifyFault::TooLarge);
         }
         push_state(
             alloc,
@@ -293,8 +260,9 @@ fn explore(
             k,
             letters,
         )?;
+        k += 1;
     }
-    Err(VerifyFault::TooLarge)
+    Ok(draft)
 }
 
 /// A name for each input.
@@ -319,7 +287,9 @@ fn none_controlled(alloc: Global, count: u32) -> Result<Vec<bool>, AllocError>
     Ok(list)
 }
 
-/// The product. Its letters are the input letters; bit j of one is the circuit's j-th input.
+/// Makes the product of a circuit and an automaton, an automaton whose letters are the circuit's input letters: bit j
+/// of a letter is the circuit's j-th input. It fails with `TooLarge` if and only if more than 65,535 states are reached, or more
+/// than 16,777,216 states times input letters, and with `OutOfMemory` if memory runs out.
 pub fn product_of(
     alloc: Global,
     automaton: &Automaton,
@@ -327,7 +297,9 @@ pub fn product_of(
 ) -> Result<Automaton, VerifyFault>
     requires inputs { length netlist.now.inputs ≡ inputs automaton.now.controllable }
     requires outputs { length netlist.now.outputs ≡ outputs automaton.now.controllable }
-    ensures { IfOk result (IsProductOf automaton.now netlist.now) }
+    ensures product { IfOk result (IsProductOf automaton.now netlist.now) }
+    ensures within { OnOk result (¬ HasTooManyStates automaton.now netlist.now) }
+    ensures refused { IfErr result (HasNoProduct automaton.now netlist.now) }
 {
     // asked for what its contract says of the automaton
     let _states = automaton.states();
@@ -338,11 +310,31 @@ pub fn product_of(
     let names = names(alloc, inputs)?;
     let none = none_controlled(alloc, inputs)?;
     let table = Table {
-        states: draft.rows.len() as u32,
+        states: listed(&draft.rows).len() as u32,
         letters,
         slots: draft.slots,
         steps: draft.steps,
         lists: draft.lists,
     };
     Ok(Automaton::from_parts(0, names, none, automaton.sets(), automaton.shape(), table))
+}
+
+/// The product, where the circuit has as many inputs and outputs as the automaton has propositions of each kind; else none. Refuses what
+/// `product_of` does.
+pub fn product_if_tied(
+    alloc: Global,
+    automaton: &Automaton,
+    netlist: &Netlist,
+) -> Result<Option<Automaton>, VerifyFault>
+    ensures { IfOk result (λ found. IfSome found (IsProductOf automaton.now netlist.now)) }
+{
+    // asked for what its contract says of the automaton
+    let _states = automaton.states();
+    let controllable = marks(alloc, automaton)?;
+    let inputs = count_inputs(&controllable) as usize;
+    let outputs = controllable.len() - inputs;
+    if netlist.inputs() != inputs || netlist.outputs() != outputs {
+        return Ok(None);
+    }
+    Ok(Some(product_of(alloc, automaton, netlist)?))
 }

@@ -1,4 +1,4 @@
-//! What is found of a circuit.
+//! The verdict on a circuit.
 
 ghost use Rattle.std.specs.Prelude.{◌≡◌, ℕ, length, IfOk};
 ghost use Rattle.pg_hoa_automaton.specs.Automata.{Automaton};
@@ -10,7 +10,7 @@ ghost use Rattle.pg_check.specs.Soundness.{IsSound};
 ghost use Rattle.pg_text.specs.Solutions.{IsSolution};
 ghost use Rattle.pg_synth.specs.Answers.{IsSynthGame};
 ghost use Rattle.pg_synth.specs.Letters.{inputs};
-ghost use Rattle.pg_verify.specs.Mirrors.Products.{IsProductOf};
+ghost use Rattle.pg_verify.specs.Products.{IsProductOf};
 ghost use Rattle.pg_verify.specs.Verdicts.{Says};
 
 use crate::walk::refutation;
@@ -20,18 +20,20 @@ use pg_synth::SynthGame;
 use pg_text::Solution;
 use std::alloc::{AllocError, Global};
 
-/// Whether the automaton accepts what the circuit makes of every endless input word, and if not, what speaks against it.
+/// Whether the automaton accepts the circuit's run for every endless input word, and if it doesn't, an input word as
+/// evidence.
 #[derive(Debug, Drop)]
 pub enum Verdict {
-    /// It does.
+    /// The automaton accepts every run.
     Accepted,
-    /// After these input letters the automaton has no edge for the last letter that the circuit makes.
+    /// The automaton has no edge for the letter that the circuit makes of the last of these input letters.
     Stuck(Vec<u32>),
-    /// These input letters, and then those of the second list over and over: the run is rejected.
+    /// The automaton rejects the run on the first input letters followed by the second ones repeated for ever.
     Rejected(Vec<u32>, Vec<u32>),
 }
 
-/// The verdict on a circuit, by a sound solution of the game of the product with an automaton. It is refused only where memory runs out.
+/// Returns the verdict on a circuit, from a sound solution of the game of its product with an automaton. It fails only
+/// if memory runs out.
 pub fn verdict_of(
     alloc: Global,
     product: &Automaton,

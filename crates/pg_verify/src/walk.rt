@@ -9,7 +9,7 @@ ghost use Rattle.pg_text.specs.Solutions.{IsSolution, winner};
 ghost use Rattle.pg_synth.specs.Answers.{IsSynthGame};
 ghost use Rattle.pg_synth.specs.AutomatonGames.{StandsFor, place_identifier};
 ghost use Rattle.pg_synth.specs.declared.place.Place.TheVariants.{Answer, Arrival};
-ghost use Rattle.pg_verify.specs.Mirrors.Products.{HasWholeLetters};
+ghost use Rattle.pg_verify.specs.Products.{HasWholeLetters};
 ghost use Rattle.pg_verify.specs.Mirrors.Walks.{IsChosen, IsLasso, Shows};
 
 use crate::verdict::Verdict;

@@ -3,6 +3,8 @@ use Rattle.std.specs.Prelude.{ℕ, ◌+◌, ◌≤◌, ◌==◌, ◌&&◌, ◌||
 use Rattle.pg_hoa_automaton.specs.Mirrors.Steps.{◌>>=◌}
 use Rattle.pg_aiger_reader.specs.declared.fault.Section.{Section}
 use Rattle.pg_aiger_reader.specs.declared.fault.Section.TheVariants.{BadStates, Constraints, Justice, Fairness}
+use Rattle.pg_aiger_reader.specs.declared.fault.ReaderFault.{ReaderFault}
+use Rattle.pg_aiger_reader.specs.declared.fault.ReaderFault.TheVariants.{TooLarge, LeftOut}
 use Rattle.pg_aiger_reader.specs.declared.header.Header.{Header}
 use Rattle.pg_aiger_reader.specs.declared.item.Form.{Form}
 use Rattle.pg_aiger_reader.specs.declared.item.Form.TheVariants.{Ascii, Binary}
@@ -46,6 +48,18 @@ header_of form ns = None
 
 unfoldable pub header_at : List ℕ → Option (Header × List ℕ)
 header_at bytes = form_at bytes >>= λ x. line_at 9 x.1 >>= λ y. header_of x.0 y.0 >>= λ h. Some (h, y.1)
+
+-- what a header is refused for by name
+abbrev pub over : ℕ → ℕ → Option Section → Option ReaderFault
+over m o (Some section) = Some (LeftOut section)
+over m o None = if nat_lt 16777216 m || nat_lt 16777216 o then Some TooLarge else None
+
+unfoldable pub header_fault : List ℕ → Option ReaderFault
+header_fault (m ∷ i ∷ l ∷ o ∷ a ∷ more) = over m o (left_out more)
+header_fault ns = None
+
+unfoldable pub fault_at : List ℕ → Option ReaderFault
+fault_at bytes = form_at bytes >>= λ x. line_at 9 x.1 >>= λ y. header_fault y.0
 
 -- what the sections may count on
 pub record IsSmall (header : Header) : Type 0 where

@@ -3,13 +3,9 @@ use Rattle.std.specs.Prelude.{◌≡◌, ◌≢◌, ℕ, ◌<◌, ◌==◌, ◌&
 use Rattle.std.specs.Str.{bytes_eq}
 use Rattle.std.proofs.Common.{Bor}
 use Rattle.pg_aiger.specs.CircuitText.{Kind, input, latch, output, Symbol}
-use Rattle.pg_aiger_reader.specs.Ties.{IsNamed, IsMissing, IsExtra, IsTwice}
+use Rattle.pg_aiger_reader.specs.Ties.{IsNamed, IsOnlyAt}
 use Rattle.pg_aiger_reader.specs.declared.ties.Place.{Place}
 use Rattle.pg_aiger_reader.specs.declared.ties.Place.TheVariants.{Missing, At, Twice}
-use Rattle.pg_aiger_reader.specs.declared.ties.SideFault.{SideFault}
-use Rattle.pg_aiger_reader.specs.declared.ties.SideFault.TheVariants as sides
-use Rattle.pg_aiger_reader.specs.declared.fault.TieFault.{TieFault}
-use Rattle.pg_aiger_reader.specs.declared.fault.TieFault.TheVariants as ties
 
 abbrev pub is_kind : Kind → Kind → Bool
 is_kind input input = true
@@ -30,7 +26,7 @@ noted found kind count name s =
 -- what symbols say of where a name stands
 abbrev pub IsPlaceOf : Kind → ℕ → List Symbol → List ℕ → Place → Type 0
 IsPlaceOf kind count symbols name Missing = (place : ℕ) → ¬ IsNamed kind count symbols name place
-IsPlaceOf kind count symbols name (At p) = IsNamed kind count symbols name p × ((q : ℕ) → IsNamed kind count symbols name q → q ≡ p)
+IsPlaceOf kind count symbols name (At p) = IsOnlyAt kind count symbols name p
 IsPlaceOf kind count symbols name Twice =
     (p : ℕ) × (q : ℕ) × (p ≢ q) × IsNamed kind count symbols name p × IsNamed kind count symbols name q
 
@@ -44,29 +40,3 @@ pub record AreGiven (kind : Kind) (count : ℕ) (symbols : List Symbol) (names :
   pub named : (k : ℕ) → k < so_many → IsNamed kind count symbols (get_or names k []) (get_or places k 0)
   pub nowhere_else : (k place : ℕ) → k < so_many → IsNamed kind count symbols (get_or names k []) place → place ≡ get_or places k 0
   pub apart : (i j : ℕ) → i < j → j < so_many → get_or places i 0 ≢ get_or places j 0
-
--- why one side doesn't fit
-abbrev pub IsSideFault : Bool → Kind → List Symbol → List (List ℕ) → List ℕ → SideFault → Type 0
-IsSideFault by_place kind symbols names literals sides.OutOfMemory = Unit {0}
-IsSideFault by_place kind symbols names literals (sides.Missing k) = IsMissing by_place kind symbols names literals k
-IsSideFault by_place kind symbols names literals (sides.Extra place) = IsExtra by_place kind symbols names literals place
-IsSideFault by_place kind symbols names literals (sides.Twice k) = IsTwice by_place kind symbols names literals k
-
--- a side is refused where it is taken as it stands
-abbrev pub IsUneven : ℕ → ℕ → SideFault → Type 0
-IsUneven names literals sides.OutOfMemory = ⊥
-IsUneven names literals (sides.Missing k) = (k ≡ literals) × (k < names)
-IsUneven names literals (sides.Extra place) = (place ≡ names) × (place < literals)
-IsUneven names literals (sides.Twice k) = ⊥
-
-abbrev pub side_of_input : SideFault → TieFault
-side_of_input sides.OutOfMemory = ties.OutOfMemory
-side_of_input (sides.Missing k) = ties.MissingInput k
-side_of_input (sides.Extra place) = ties.ExtraInput place
-side_of_input (sides.Twice k) = ties.InputNameTwice k
-
-abbrev pub side_of_output : SideFault → TieFault
-side_of_output sides.OutOfMemory = ties.OutOfMemory
-side_of_output (sides.Missing k) = ties.MissingOutput k
-side_of_output (sides.Extra place) = ties.ExtraOutput place
-side_of_output (sides.Twice k) = ties.OutputNameTwice k

@@ -1,5 +1,5 @@
 -- What the reader computes: a mirror of it for proofs, whose laws stand in proofs/.
-use Rattle.std.specs.Prelude.{ℕ, ◌+◌, ◌==◌, List, [], ◌∷◌, length, take, drop, Option, Some, None, codes, if◌then◌else◌}
+use Rattle.std.specs.Prelude.{ℕ, suc, ◌+◌, ◌==◌, List, [], ◌∷◌, length, take, drop, Option, Some, None, codes, if◌then◌else◌}
 use Rattle.std.specs.Str.{bytes_eq}
 use Rattle.pg_hoa_automaton.specs.Mirrors.Steps.{◌>>=◌}
 use Rattle.pg_aiger.specs.declared.gate.Latch.{Latch}
@@ -9,7 +9,10 @@ use Rattle.pg_aiger.specs.Circuits.{Circuit}
 use Rattle.pg_aiger.specs.CircuitText.{Symbol}
 use Rattle.pg_aiger_reader.specs.Texts.{latch_in}
 use Rattle.pg_aiger_reader.specs.Views.{circuit_in, symbols_in}
-use Rattle.pg_aiger_reader.specs.Mirrors.Headers.{header_at}
+use Rattle.pg_aiger_reader.specs.declared.fault.ReaderFault.{ReaderFault}
+use Rattle.pg_aiger_reader.specs.declared.fault.ReaderFault.TheVariants.{Reset}
+use Rattle.pg_aiger_reader.specs.Mirrors.Steps.{first_named}
+use Rattle.pg_aiger_reader.specs.Mirrors.Headers.{header_at, fault_at}
 use Rattle.pg_aiger_reader.specs.Mirrors.Sections.{Parts, sections_at}
 use Rattle.pg_aiger_reader.specs.Mirrors.Symbols.{symbols_at}
 
@@ -19,6 +22,11 @@ behind_verdict bytes = if bytes_eq (take 11 bytes) (codes "REALIZABLE\n") then d
 unfoldable pub latches_at : List LatchLine → Option (List Latch)
 latches_at [] = Some []
 latches_at (l ∷ ls) = if l.reset == 0 then (latches_at ls >>= λ xs. Some (latch_in l ∷ xs)) else None
+
+-- the first latch that doesn't start at 0, counted from this place
+unfoldable pub reset_fault : ℕ → List LatchLine → Option ReaderFault
+reset_fault place [] = None
+reset_fault place (l ∷ lines) = if l.reset == 0 then reset_fault (suc place) lines else Some (Reset place)
 
 abbrev pub circuit_of : ℕ → Parts → List Latch → Circuit
 circuit_of greatest parts latches =
@@ -34,3 +42,9 @@ text_at bytes =
     latches_at s.0.lines >>= λ latches.
     symbols_at h.0 (length s.1 + 1) s.1 >>= λ symbols.
     Some (circuit_of h.0.greatest s.0 latches, symbols)
+
+-- what a text is refused for by name
+unfoldable pub text_fault : List ℕ → Option ReaderFault
+text_fault bytes =
+    first_named (fault_at (behind_verdict bytes))
+    (header_at (behind_verdict bytes) >>= λ h. sections_at h.0 h.1 >>= λ s. reset_fault 0 s.0.lines)

@@ -3,7 +3,7 @@ use Rattle.pg_aiger_reader.proofs.ReadingLaws.{is_found, is_refused}
 use Rattle.pg_aiger_reader.proofs.reader.read_circuit.Goals as goal
 
 pub returns-in-Ok-clause-found : goal.returns-in-Ok-clause-found
-returns-in-Ok-clause-found c = is_found c.args.bytes.now c.in-Ok.parts c.in-Ok.ensures
+returns-in-Ok-clause-found c = is_found c.args.bytes.now c.in-Ok.parts c.in-Ok.ensures.0
 
 pub returns-in-Err-clause-refused : goal.returns-in-Err-clause-refused
 returns-in-Err-clause-refused c =

@@ -1,9 +1,0 @@
-use Rattle.pg_aiger_reader.proofs.Common.{◌≡◌, ℕ, Contains, arith, cases_lt, inl, inr, subst}
-use Rattle.pg_aiger_reader.proofs.ties.extra.Goals as goal
-
-pub loop-p-preserved : goal.loop-p-preserved
-loop-p-preserved c = λ q below.
-    elim (cases_lt q c.loop-p.p) [
-      | inl lt ↦ c.loop-p.invariant q lt
-      | inr le ↦ let same : c.loop-p.p ≡ q = omega arith in subst (λ (r : ℕ). Contains c.args.places.now r) same c.if-not-has.ensures
-    ]

@@ -1,0 +1,64 @@
+//! The states of a product, by their numbers.
+
+ghost use Rattle.std.specs.Prelude.{◌≡◌, ◌≢◌, ℕ, ◌+◌, ◌<◌, ◌≤◌, map, length, AllPairs, IfOk, OnOk};
+ghost use Rattle.pg_aiger_netlist.specs.Steps.{spelt};
+ghost use Rattle.pg_verify.specs.Mirrors.Products.{pair_of, AreWide, IsNumbered};
+
+use indexmap::IndexSet;
+use std::alloc::{AllocError, Global};
+
+/// A state of the product.
+#[derive(Debug, PartialEq, Eq, Hash, Drop)]
+pub(crate) struct Row {
+    /// The values of the circuit's latches.
+    pub latches: Vec<bool>,
+    /// The automaton's state.
+    pub state: u32,
+}
+
+fn copy_of(alloc: Global, row: &Row) -> Result<Row, AllocError>
+    ensures { IfOk result (λ copy. (pair_of copy ≡ pair_of row.now) × (copy.latches.items ≡ row.now.latches.items)) }
+{
+    Ok(Row {
+        latches: Vec::from_slice(alloc, &row.latches)?,
+        state: row.state,
+    })
+}
+
+/// Makes a row that of these latches and this state.
+pub(crate) fn set_row(row: &mut Row, latches: &[bool], state: u32) -> Result<(), AllocError>
+    ensures latches { OnOk result (row.new.latches.items ≡ latches.now) }
+    ensures state { OnOk result (row.new.state ≡ state) }
+{
+    row.latches.clear();
+    row.latches.extend_from_slice(latches)?;
+    row.state = state;
+    Ok(())
+}
+
+/// The number of a state, which is put behind the others if it has none.
+pub(crate) fn number_of(
+    alloc: Global,
+    rows: &mut IndexSet<Row>,
+    row: &Row,
+) -> Result<u32, AllocError>
+    requires few { length rows.old.keys < 4294967295 }
+    ensures number { IfOk result (λ n. IsNumbered (map pair_of rows.old.keys) (spelt row.now.latches.items) row.now.state n
+        (map pair_of rows.new.keys)) }
+    ensures wide { (width : ℕ) → length row.now.latches.items ≡ width → AreWide width rows.old.keys → OnOk result (AreWide width rows.new.keys) }
+    ensures few { OnOk result (length rows.new.keys ≤ length rows.old.keys + 1) }
+{
+    if let Some(number) = rows.get_index_of(row) {
+        return Ok(number as u32);
+    }
+    let (number, _) = rows.insert_full(copy_of(alloc, row)?)?;
+    Ok(number as u32)
+}
+
+/// The states in the order of their numbers, each once.
+pub(crate) fn listed(rows: &IndexSet<Row>) -> &[Row]
+    ensures same { result.now ≡ rows.now.keys }
+    ensures distinct { (width : ℕ) → AreWide width rows.now.keys → AllPairs (λ x y. x ≢ y) (map pair_of rows.now.keys) }
+{
+    rows.as_slice()
+}

@@ -1,0 +1,4 @@
+pub mod Opposite
+pub mod Made
+pub mod Together
+pub mod Outcomes

@@ -1,0 +1,4 @@
+pub mod Counterparts
+pub mod Environments
+pub mod Laws
+pub mod Mirrors
