@@ -5,6 +5,7 @@ pub mod Pushes
 pub mod Matches
 pub mod Places
 pub mod Made
+pub mod Wholes
 pub mod Exact
 pub mod Follows
 pub mod Steps

@@ -6,6 +6,8 @@ use Rattle.pg_aiger.proofs.Common.{div-add-mod', mul-le-mul_left, Machine, IsMac
 use Rattle.pg_aiger.proofs.Common.{Valuation, value, Satisfies, bit, IsWidth, IsTooLarge, count_ahead, Drafted, number_at, outputs_below}
 use Rattle.pg_aiger.proofs.Common.{nexts_below, reply_of, IsAt, IsBuiltFor, is_minterm, MeanEach, column_bit, AreColumns, literals_from}
 use Rattle.pg_aiger.proofs.Common.{latches_from, viewed, IsKept}
+use Rattle.pg_aiger.specs.Laws.{NoneTooLarge}
+use Rattle.std.proofs.lemmas.Nat.{mul-le}
 use Rattle.pg_aiger.proofs.Places.{any_at, literal_more}
 
 place_in : (s p i states : ℕ) → s < states → i < p → s * p + i < states * p
@@ -196,3 +198,20 @@ too_large machine latches width (other, other_width, over) =
     let ge = one_width machine.states latches other width other_width in
     let same : other ≡ latches = omega (arith, le, ge) in
     subst (λ b. 1073741823 < count_ahead machine b) same over
+
+few_latches : (states latches : ℕ) → states ≤ 65535 → IsWidth states latches → latches ≤ 16
+few_latches states latches few width = elim (cases_lt 16 latches) [
+  | inl l ↦ absurd (let more = width.least 16 l in omega (arith, more, few))
+  | inr l ↦ l
+]
+
+few_variables : (k b p : ℕ) → k ≤ 16 → b ≤ 16 → p ≤ 805306368 → 1073741823 < k + b + p → ⊥
+few_variables k b p few_inputs few width over = absurd (omega (arith, few_inputs, few, width, over))
+
+pub none_too_large : NoneTooLarge
+none_too_large machine is (latches, width, over) =
+    let few = few_latches machine.states latches is.few_states width in
+    let propositions = is.few_propositions in
+    let most : machine.inputs + 2 * latches + machine.outputs ≤ 48 = omega (arith, few, propositions) in
+    let inputs : machine.inputs ≤ 16 = omega (arith, propositions) in
+    few_variables machine.inputs latches _ inputs few (mul-le _ _ 16777216 48 (few_places machine is) most) over

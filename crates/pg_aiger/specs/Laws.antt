@@ -2,10 +2,10 @@
 use Rattle.std.specs.Prelude.{◌≡◌, ℕ, ◌^◌, ◌<◌, ◌≤◌, Bool, List, length}
 use Rattle.pg_hoa_automaton.specs.Automata.{Automaton, IsAutomaton}
 use Rattle.pg_synth.specs.Letters.{inputs, outputs}
-use Rattle.pg_synth.specs.Machines.{Machine, machine_word}
+use Rattle.pg_synth.specs.Machines.{Machine, IsMachine, machine_word}
 use Rattle.pg_aiger.specs.Circuits.{Circuit, IsNumbered}
 use Rattle.pg_aiger.specs.Runs.{Valuation, HasOneRun, IsWordOf, IsStepAt}
-use Rattle.pg_aiger.specs.Machines.{IsCircuitOf}
+use Rattle.pg_aiger.specs.Machines.{IsTooLarge, IsCircuitOf}
 use Rattle.pg_aiger.specs.CircuitText.{Symbol, IsCircuitText}
 use Rattle.pg_aiger.specs.CircuitLayout.{symbols_of, circuit_text}
 
@@ -48,3 +48,7 @@ CircuitReadsBack =
     → IsCircuitText (circuit_text circuit a) circuit (symbols_of a)
     × ((other : Circuit) (symbols : List Symbol) → IsCircuitText (circuit_text circuit a) other symbols
     → (other ≡ circuit) × (symbols ≡ symbols_of a))
+
+-- no machine has a circuit over the limit
+abbrev pub NoneTooLarge : Type 0
+NoneTooLarge = (machine : Machine) → IsMachine machine → ¬ IsTooLarge machine

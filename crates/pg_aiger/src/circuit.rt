@@ -1,17 +1,19 @@
-//! Circuits: how they are made, and what a step of one gives.
+//! Circuits: making them, and their steps.
 
-ghost use Rattle.std.specs.Prelude.{◌≡◌, ◌≢◌, ◌↔◌, ◌+◌, ◌*◌, ◌^◌, ◌<◌, ◌≤◌, Err, length, All, IfOk, IfErr, OnErr};
+ghost use Rattle.std.specs.Prelude.{◌≡◌, ◌≢◌, ◌↔◌, ◌+◌, ◌*◌, ◌^◌, ◌<◌, ◌≤◌, Err, length, All, IfOk, IfErr, IfNone, IfSome, OnErr, OnSome};
 ghost use Rattle.pg_aiger.specs.Circuits.{AreGatesFrom, circuit_in_order};
 ghost use Rattle.pg_aiger.specs.Construction.{made_circuit};
 ghost use Rattle.pg_aiger.specs.Runs.{Valuation, value, number_of, Steps, GoesOn};
 ghost use Rattle.pg_aiger.specs.Machines.{IsWidth, IsTooLarge, IsCircuitOf, count_ahead};
 ghost use Rattle.pg_aiger.specs.Mirrors.Steps.{Agrees, IsValued};
 ghost use Rattle.pg_aiger.specs.Mirrors.Tables.{outputs_below, nexts_below, AreColumns};
+ghost use Rattle.pg_aiger.specs.Mirrors.Views.{IsKept};
 ghost use Rattle.pg_synth.specs.Machines.{IsMachine};
 
 use crate::draft::Draft;
 use crate::fault::AigerFault;
 use crate::gate::Gate;
+use crate::parts::are_parts;
 use crate::table::{columns, minterms};
 use pg_synth::Mealy;
 use std::alloc::{AllocError, Global};
@@ -19,8 +21,8 @@ use std::marker::Model;
 
 const MAX_VARIABLES: u64 = 1_073_741_823;
 
-/// A circuit. Its variables from 1 on are its inputs, then its latches, then its gates; each gate is over literals of smaller
-/// variables.
+/// A circuit. Its variables count from 1: first the inputs, then the latches, then the gates. The literals of a gate
+/// have smaller variables than the gate.
 #[derive(Debug, Drop)]
 pub struct Circuit {
     pub(crate) inputs: u32,
@@ -41,17 +43,45 @@ impl Model for Circuit {
 }
 
 impl Circuit {
-    /// How many inputs there are, the literals that latches take over, those of the outputs, and the gates.
+    /// Returns the circuit of these parts: the number of inputs, the next literals of the latches, the literals of the outputs, and the
+    /// gates.
+    ///
+    /// It returns `None` if and only if there are more than 16 inputs, latches or outputs, or more than 1,073,741,823 variables; or if the
+    /// gates don't define the variables behind inputs and latches one after another, each by literals of smaller variables, the greater
+    /// one first; or if a latch or an output has a literal of an undefined variable.
+    pub fn of_parts(
+        inputs: u32,
+        nexts: Vec<u32>,
+        outputs: Vec<u32>,
+        gates: Vec<Gate>,
+    ) -> Option<Circuit>
+        ensures parts { IfSome result (λ circuit. circuit ≡ circuit_in_order inputs nexts.items outputs.items gates.items) }
+        ensures kept { OnSome result (IsKept inputs nexts.items outputs.items gates.items) }
+        ensures none { IfNone result (¬ IsKept inputs nexts.items outputs.items gates.items) }
+    {
+        if !are_parts(inputs, &nexts, &outputs, &gates) {
+            return None;
+        }
+        Some(Circuit {
+            inputs,
+            nexts,
+            outputs,
+            gates,
+        })
+    }
+
+    /// The number of inputs, the next literals of the latches, the literals of the outputs, and the gates.
     pub fn parts(&self) -> (u32, &[u32], &[u32], &[Gate])
-        ensures { self.now ≡ circuit_in_order result.0 result.1.now result.2.now result.3.now }
+        ensures parts { self.now ≡ circuit_in_order result.0 result.1.now result.2.now result.3.now }
+        ensures kept { IsKept result.0 result.1.now result.2.now result.3.now }
     {
         (self.inputs, &self.nexts, &self.outputs, &self.gates)
     }
 
-    /// One step: the output letter at an input letter. Bit j of `inputs` is the j-th input, bit j of `bits` the j-th latch, before
-    /// the call and after it; further bits are ignored. A run begins with no bit set.
+    /// Makes one step, and returns the output letter for an input letter. Bit j of `inputs` is the j-th input. Bit j of
+    /// `bits` is the j-th latch, before the call and after it. Further bits are ignored. A run begins with all bits 0.
     ///
-    /// Refuses with `OutOfMemory` alone, and `bits` is then as it was.
+    /// It fails only with `OutOfMemory`, and then `bits` stays as it was.
     pub fn step(&self, bits: &mut u32, inputs: u32) -> Result<u32, AigerFault>
         ensures step { IfOk result (λ output. Steps self.now bits.old inputs output bits.new) }
         ensures run { IfOk result (λ output. GoesOn self.now bits.old inputs output bits.new) }
@@ -109,11 +139,11 @@ fn replies(alloc: Global, machine: &Mealy) -> Result<(Vec<u32>, Vec<u32>), Alloc
     Ok((outputs, nexts))
 }
 
-/// The circuit of a machine: in every run its outputs are the machine's output letters. Its latches hold the number of the
-/// machine's state.
+/// Makes the circuit of a machine: in every run its outputs are the machine's output letters. Its latches hold the
+/// number of the machine's state.
 ///
-/// Refuses with `TooLarge` exactly if the circuit may have more than 1,073,741,823 variables, before it makes any; no machine
-/// within the limits of automata is that large. Else it refuses only with `OutOfMemory`.
+/// It fails with `TooLarge` if and only if the circuit may have more than 1,073,741,823 variables, before it makes any;
+/// no machine is that large (`laws::none_too_large`). Otherwise it fails only with `OutOfMemory`.
 pub fn circuit_of(alloc: Global, machine: &Mealy) -> Result<Circuit, AigerFault>
     ensures circuit { IfOk result (IsCircuitOf machine.now) }
     ensures too_large { (result ≡ Err AigerFault.TooLarge) ↔ IsTooLarge machine.now }

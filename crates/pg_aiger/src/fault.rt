@@ -7,14 +7,14 @@ use std::alloc::{AllocError, AllocFailed};
 use std::error::Error;
 use std::{fmt, io};
 
-/// Why there is no circuit, no step of it, or no text of it.
+/// Why a circuit can't be made, make a step, or be written.
 #[derive(Clone, Copy, Debug, PartialEq, Eq)]
 pub enum AigerFault {
     /// A growth was refused.
     OutOfMemory,
     /// The circuit may have more than 1,073,741,823 variables.
     TooLarge,
-    /// The writer failed. Nothing is known of how much went out.
+    /// The writer failed. It may have written part of the text.
     Write,
 }
 

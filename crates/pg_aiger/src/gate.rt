@@ -1,6 +1,7 @@
 //! The lines of gates and latches.
 
-/// A gate as its line says it: a literal of its own, and the two whose conjunction it is. In a `Circuit` the greater one is first.
+/// A gate: its own literal, and the two literals whose conjunction it is. In a `Circuit` the greater of these comes
+/// first.
 #[derive(Clone, Copy, Debug, PartialEq, Eq)]
 pub struct Gate {
     pub lhs: u32,
@@ -8,7 +9,7 @@ pub struct Gate {
     pub rhs1: u32,
 }
 
-/// A latch as its line says it: a literal of its own, and the one that it takes over in the next step.
+/// A latch: its own literal, and the literal whose value it has in the next step.
 #[derive(Clone, Copy, Debug, PartialEq, Eq)]
 pub struct Latch {
     pub literal: u32,

@@ -1,13 +1,6 @@
-//! Laws over the definitions. Their functions take no memory and do nothing: their contracts are what they are for.
+//! Laws that follow from the definitions. Each function states one in its contract, and does nothing.
 
-ghost use Rattle.std.specs.Prelude.{◌≡◌, ℕ, ◌^◌, ◌<◌, Bool, List};
-ghost use Rattle.pg_synth.specs.Letters.{inputs};
-ghost use Rattle.pg_aiger.specs.Circuits.{Circuit};
-ghost use Rattle.pg_aiger.specs.Machines.{IsCircuitOf};
-ghost use Rattle.pg_synth.specs.Machines.{Machine};
-ghost use Rattle.pg_aiger.specs.Laws.{OneRun, OneStep, OneCircuit, CircuitFollows, FollowsMachine, CircuitReadsBack};
-
-use pg_synth::InputWord;
+ghost use Rattle.pg_aiger.specs.Laws.{OneRun, OneStep, OneCircuit, CircuitFollows, CircuitReadsBack, NoneTooLarge};
 
 /// A circuit in its order has exactly one run for each endless input word.
 pub fn one_run()
@@ -19,7 +12,7 @@ pub fn one_step()
     ensures { OneStep }
 {}
 
-/// A machine has one circuit.
+/// A machine has exactly one circuit.
 pub fn one_circuit()
     ensures { OneCircuit }
 {}
@@ -29,14 +22,12 @@ pub fn circuit_follows()
     ensures { CircuitFollows }
 {}
 
-/// The same of an input word that is given.
-pub fn circuit_follows_of<W: InputWord>(word: &W)
-    ensures { (controllable : List Bool) (machine : Machine) (circuit : Circuit) → machine.inputs ≡ inputs controllable
-        → IsCircuitOf machine circuit → ((t : ℕ) → W.input word.now t < 2 ^ inputs controllable)
-        → FollowsMachine controllable machine circuit (W.input word.now) }
-{}
-
 /// The text of a circuit spells that circuit and the names of the automaton's propositions, and nothing else.
 pub fn circuit_reads_back()
     ensures { CircuitReadsBack }
+{}
+
+/// No machine has a circuit over the limit, so `circuit_of` fails only if memory runs out.
+pub fn none_too_large()
+    ensures { NoneTooLarge }
 {}

@@ -1,4 +1,4 @@
-//! Circuits to text.
+//! Writing circuits.
 
 ghost use Rattle.std.specs.Prelude.{◌≡◌, ◌+◌, ◌^◌, ◌<◌, ◌≤◌, ◌++◌, length, map, codes, OnOk, IfErr};
 ghost use Rattle.std.specs.List.{flat_map};
@@ -122,11 +122,11 @@ fn write_symbols<W: Write>(automaton: &Automaton, controlled: bool, out: &mut W)
     Ok(())
 }
 
-/// Writes a circuit in the ASCII form of the AIGER format: the header `aag M I L O A`, a line for each input, latch, output and
-/// gate, and then a symbol for each input and each output, which is the name of its proposition in the automaton. It makes many
-/// small writes: give it a buffered writer.
+/// Writes a circuit in the ASCII form of AIGER: the header `aag M I L O A`, a line for each input, latch, output and
+/// gate, and then a symbol for each input and each output, the name of its proposition in the automaton. It makes many
+/// small writes, so pass a buffered writer.
 ///
-/// The only fault is `Write`, where the writer fails; nothing is then known of how much went out.
+/// It fails only with `Write`, if the writer fails; part of the text may have been written by then.
 pub fn write_circuit<W: Write>(
     circuit: &Circuit,
     automaton: &Automaton,

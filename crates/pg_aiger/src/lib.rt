@@ -7,10 +7,10 @@ mod fault;
 mod gate;
 pub mod laws;
 mod layout;
+mod parts;
 mod table;
 
 pub use circuit::{Circuit, circuit_of};
 pub use fault::AigerFault;
 pub use gate::{Gate, Latch};
 pub use layout::write_circuit;
-pub use pg_synth::{InputWord, Word};

@@ -1,4 +1,4 @@
-//! The machine that follows a solution of the game of an automaton.
+//! Makes the machine that follows a solution of the game of an automaton.
 
 ghost use Rattle.std.specs.Prelude.{◌≡◌, ℕ, ◌+◌, ◌*◌, ◌<◌, ◌++◌, ◌∷◌, [], length, OnOk, IfOk, IfErr};
 ghost use Rattle.pg_arena.specs.declared.player.Player.TheVariants.{Even};
@@ -26,13 +26,14 @@ use pg_hoa_automaton::Automaton;
 use pg_text::Solution;
 use std::alloc::{AllocError, Global};
 
-/// The machine by which the controller follows a sound solution of the game of the automaton, or `None` exactly if Odd
-/// wins where the game begins. Its output letter is the least that leads to the chosen successor. Its states are those of
-/// the automaton that it can reach, numbered as they are met: state by state, the initial one first, and input letter by
-/// input letter. Takes time linear in these states times the letters.
+/// Returns the machine by which the controller follows a sound solution of the automaton's game, or None if and only if
+/// Odd wins the vertex where the game begins. Its output letter is the least one that leads to the chosen successor.
+/// Its states are the automaton's states that it can reach, numbered in the order in which a breadth-first search meets
+/// them: the initial state first, and for each state its input letters in rising order. The time is linear in these
+/// states times the letters.
 ///
-/// The game is that of the automaton, and the solution names a choice wherever the winner owns the vertex. Refuses only
-/// with `OutOfMemory`.
+/// The game must be the automaton's, and the solution must have a choice wherever the winner owns the vertex. It fails
+/// only with `OutOfMemory`.
 pub fn mealy_of(
     alloc: Global,
     automaton: &Automaton,

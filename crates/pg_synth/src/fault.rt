@@ -7,10 +7,10 @@ use std::alloc::{AllocError, AllocFailed};
 use std::error::Error;
 use std::fmt;
 
-/// Why there is no answer.
+/// Why a call has no answer.
 #[derive(Clone, Copy, Debug, PartialEq, Eq)]
 pub enum SynthFault {
-    /// A growth was refused.
+    /// Memory ran out.
     OutOfMemory,
     /// The game has more than 1,048,576 vertices or more than 8,388,608 edges.
     TooLarge,

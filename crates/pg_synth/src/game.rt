@@ -14,18 +14,19 @@ use std::alloc::Global;
 /// The game of an automaton, with the vertex where it begins.
 #[derive(Drop)]
 pub struct SynthGame {
-    /// The game. Even wins a play exactly if the automaton accepts the word that traces it.
+    /// The game. Even wins a play if and only if the automaton accepts the word that traces it.
     pub game: Game,
-    /// The arrival at the initial state without a set.
+    /// The vertex for the arrival at the initial state without a set.
     pub initial: Vertex,
 }
 
-/// The game of an automaton. Odd chooses input letters, Even output letters, and each vertex but the first, where a run has ended,
-/// is an arrival at a state or the answer at a state to an input letter. Every arrival that some state and letter lead to is
-/// there, and the answers at every state, reachable or not.
+/// Makes the game of an automaton. Odd chooses input letters and Even output letters. Vertex 0 means that the run has
+/// ended. Every other vertex is an arrival at a state, or the answer at a state to an input letter. The game has every
+/// arrival that some state and letter lead to, and the answers at every state, reachable or not.
 ///
-/// Refuses with `TooLarge` exactly if the game has more than 1,048,576 vertices, or more than 8,388,608 edges where edges between
-/// the same two vertices count once; it finds that before it makes the game. Else it refuses only with `OutOfMemory`.
+/// It fails with `TooLarge` if and only if the game has more than 1,048,576 vertices, or more than 8,388,608 edges,
+/// counting parallel edges once; it finds that out before it makes the game. Otherwise it fails only with
+/// `OutOfMemory`.
 pub fn game_of(alloc: Global, automaton: &Automaton) -> Result<SynthGame, SynthFault>
     ensures game { IfOk result (λ made. IsSynthGame automaton.now made.game made.initial) }
     ensures priorities { IfOk result (λ made. HasPrioritiesUpTo 65535 made.game) }

@@ -1,5 +1,5 @@
-//! The game of an automaton, in which Even has to choose output letters so that each run is accepted, and the laws that tie
-//! its plays to endless words.
+//! The game of an automaton, in which Even chooses output letters so that every run is accepted, and the laws that
+//! relate its plays to endless words.
 #![tactic(auto)]
 
 mod controller;
@@ -10,11 +10,9 @@ mod layout;
 mod lines;
 mod mealy;
 mod place;
-mod word;
 
 pub use controller::mealy_of;
 pub use fault::SynthFault;
 pub use game::{SynthGame, game_of};
 pub use mealy::Mealy;
 pub use place::Place;
-pub use word::{InputWord, Word};

@@ -12,9 +12,9 @@ pub(crate) struct Reply {
     pub next: u32,
 }
 
-/// A Mealy machine. It begins in its state 0; from a state and an input letter it gives an output letter and the next
-/// state. Bit j of an input letter is the j-th proposition of the environment, bit j of an output letter the j-th of the
-/// controller, both counted from 0 in the order of the automaton.
+/// A Mealy machine. It starts in state 0. In each step it reads an input letter, gives an output letter and goes to the
+/// next state. Bit j of an input letter is the j-th proposition of the environment, and bit j of an output letter the
+/// j-th of the controller, counted from 0 in the order of the automaton.
 #[derive(Drop)]
 pub struct Mealy {
     states: u32,
@@ -49,7 +49,7 @@ impl Mealy {
         }
     }
 
-    /// How many states it has: at least 1 and at most 65,535.
+    /// The number of states, from 1 to 65,535.
     pub fn states(&self) -> u32
         ensures value { result ≡ self.now.states }
         ensures machine { IsMachine self.now }
@@ -57,21 +57,21 @@ impl Mealy {
         self.states
     }
 
-    /// How many propositions an input letter has.
+    /// The number of propositions in an input letter.
     pub fn inputs(&self) -> u32
         ensures { result ≡ self.now.inputs }
     {
         self.inputs
     }
 
-    /// How many propositions an output letter has.
+    /// The number of propositions in an output letter.
     pub fn outputs(&self) -> u32
         ensures { result ≡ self.now.outputs }
     {
         self.outputs
     }
 
-    /// The output letter that a state gives at an input letter, and the state that is next.
+    /// The output letter in a state for an input letter, and the next state.
     pub fn step(&self, state: u32, input: u32) -> (u32, u32)
         requires state { state < self.now.states }
         requires input { input < 2 ^ self.now.inputs }

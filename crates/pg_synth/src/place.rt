@@ -1,4 +1,4 @@
-//! What the vertices of the game of an automaton stand for.
+//! The meaning of the vertices in the game of an automaton.
 
 ghost use Rattle.std.specs.Prelude.{◌≡◌, ◌<◌, ◌≤◌, ◌++◌, decimal, OnOk};
 ghost use Rattle.pg_synth.specs.AutomatonGames.{place_owner, place_priority, place_name, none_priority, set_priority};
@@ -9,15 +9,16 @@ use pg_arena::Player;
 use pg_hoa_automaton::Shape;
 use std::alloc::AllocError;
 
-/// A place in a run that is played step by step: Odd chooses an input letter at an arrival, Even an output letter at an
-/// answer.
+/// A position in a run that the players build step by step. Odd chooses an input letter at an arrival, and Even an
+/// output letter at an answer.
 #[derive(Clone, Copy, Debug, PartialEq, Eq)]
 pub enum Place {
     /// The run has ended: the last letter has no edge.
     Dead,
-    /// The run is at the state, and this set decides of those met on the way, or none was met.
+    /// The run has arrived at the state. The set is the one that decides among those met on the way; None if the step
+    /// met no set.
     Arrival(u32, Option<u32>),
-    /// The run is at the state, and the input letter is chosen.
+    /// The run is at the state, and Odd has chosen this input letter.
     Answer(u32, u32),
 }
 

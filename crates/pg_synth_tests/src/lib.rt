@@ -14,6 +14,4 @@ mod steps;
 #[cfg(test)]
 mod texts;
 #[cfg(test)]
-mod words;
-#[cfg(test)]
 mod writers;
