@@ -61,7 +61,7 @@ pub record IsUndetermined (bytes : List ℕ) (state letter : ℕ) : Type 0 where
 abbrev pub SpellsNone : List ℕ → Type 0
 SpellsNone bytes = (a : Automaton) → Spelt bytes a → ⊥
 
--- Each text may be refused for want of memory. NotDeterministic comes where that alone is wrong, and names where; each other
+-- For each text memory may run out. NotDeterministic comes where that alone is wrong, and names where; each other
 -- fault where more is wrong.
 abbrev pub IsRefused : List ℕ → HoaFault → Type 0
 IsRefused bytes OutOfMemory = Unit {0}

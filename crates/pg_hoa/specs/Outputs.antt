@@ -48,7 +48,7 @@ pub record LacksOutput (bytes : List ℕ) (names : List (List ℕ)) (place : ℕ
   pub free : has_header (codes "controllable-AP") spelt.written ≡ false
   pub lacks : IsFirstUnknown automaton.propositions names place
 
--- Why there is no such second text. Each text may be refused for want of memory.
+-- Why there is no such second text. For each text memory may run out.
 abbrev pub RefusesOutputs : List ℕ → List (List ℕ) → OutputsFault → Type 0
 RefusesOutputs bytes names (Text fault) = IsRefused bytes fault
 RefusesOutputs bytes names Controlled = HasControls bytes

@@ -8,15 +8,16 @@ use std::alloc::AllocError;
 use std::error::Error;
 use std::fmt;
 
-/// Why a text is refused. Offsets count bytes from 0 and name the first byte of the token at fault; at the end of the
-/// text they are its length.
+/// Why a text is refused. Offsets count bytes from 0 and point to the first byte of the token at fault; an offset at
+/// the end of the text is the text's length.
 #[derive(Clone, Copy, Debug, PartialEq, Eq)]
 pub enum HoaFault {
     /// A growth was refused.
     OutOfMemory,
-    /// No token begins at this offset, or a comment or string there doesn't end, or another token has to stand there.
+    /// No token begins at this offset, or a comment or string begins there and doesn't end, or the token there isn't
+    /// one that may stand there.
     Syntax(usize),
-    /// What stands at this offset is of HOA v1, and left out here.
+    /// HOA v1 allows what is at this offset, and this reader doesn't support it.
     LeftOut(LeftOutName, usize),
     /// A header that HOA v1 doesn't know, whose name begins with an upper-case letter.
     UnknownHeader(usize),
@@ -24,8 +25,8 @@ pub enum HoaFault {
     OutOfRange(usize),
     /// The acceptance condition has none of the six shapes.
     NotParity,
-    /// Two edges of the state match the letter, and lead to different states or meet different deciding sets: the
-    /// least state with such a letter, and its least letter.
+    /// Two edges of this state match this letter, and they lead to different states or their deciding sets differ. It
+    /// is the least state with such a letter, and its least such letter.
     NotDeterministic(u32, u32),
     /// A number over 4,294,967,295, a count over its limit, or nesting deeper than 8,192.
     TooLarge,
@@ -61,7 +62,7 @@ impl fmt::Display for HoaFault {
 
 impl Error for HoaFault {}
 
-/// The fault of a text of `len` bytes that is refused so.
+/// The fault of a text of `len` bytes, for the reason that the reader of its tokens gives.
 pub fn in_text(refusal: Refusal, len: usize) -> HoaFault
     ensures { result ≡ refusal_in_text len refusal }
 {

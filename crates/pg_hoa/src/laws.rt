@@ -1,10 +1,11 @@
-//! What is proved of texts of automata: each function's contract is a law, and its body does nothing.
+//! Laws about texts of automata. Each function states one in its contract, and does nothing.
 
 ghost use Rattle.pg_hoa.specs.Laws.{OneReading};
 
 pub use pg_hoa_automaton::laws::{recurring_collected, shape_tells};
 
-/// One text spells one automaton, or else is undetermined first at one state and letter.
+/// A text spells one automaton, or it is not deterministic, and then the first state and letter at which it isn't are
+/// determined.
 pub fn one_reading()
     ensures { OneReading }
 {}

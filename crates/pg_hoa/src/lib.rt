@@ -1,4 +1,4 @@
-//! Automata from text.
+//! Reading automata.
 #![tactic(auto)]
 
 mod fault;

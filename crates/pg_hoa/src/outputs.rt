@@ -1,4 +1,4 @@
-//! Outputs that are named apart from the text.
+//! Outputs that the caller names, in place of a header in the text.
 
 ghost use Rattle.std.specs.Prelude.{◌≡◌, ◌<◌, ◌++◌, ◌∷◌, [], length, map, Contains, MatchBool, MatchOption, IfOk, OnOk, IfErr};
 ghost use Rattle.std.specs.Prelude.{if◌then◌else◌};
@@ -15,14 +15,14 @@ use std::alloc::{AllocError, Global};
 /// The header that says what the controller sets.
 const CONTROLS: &[u8] = b"controllable-AP";
 
-/// Why the outputs of a text can't be named apart from it.
+/// Why the caller can't name the outputs.
 #[derive(Clone, Copy, Debug, PartialEq, Eq)]
 pub enum OutputsFault {
     /// The text spells no automaton.
     Text(HoaFault),
-    /// It has a header that names them.
+    /// The text has the header `controllable-AP`.
     Controlled,
-    /// The name at this place is that of no proposition.
+    /// No proposition has the name at this index of the list.
     NoProposition(usize),
 }
 
@@ -109,9 +109,11 @@ fn numbers_of(alloc: Global, automaton: &Automaton, names: &[&[u8]]) -> Result<V
     Ok(numbers)
 }
 
-/// The same text, but that the controller sets the propositions of these names: with a header more that says so.
+/// Returns the text with one more header, by which the controller sets the propositions with these names and no others.
 ///
-/// Refuses, in this order, what `read_automaton` refuses; a text that has such a header; the first name that no proposition has.
+/// It fails, in this order: with `Text`, if `read_automaton` refuses the text; with `Controlled`, if the text has that
+/// header already; with `NoProposition` for the first name that no proposition has. `Text(OutOfMemory)` can come at any
+/// point.
 pub fn with_outputs(alloc: Global, bytes: &[u8], names: &[&[u8]]) -> Result<Vec<u8>, OutputsFault>
     ensures found { IfOk result (λ text. HasOutputs bytes.now (map (λ name. name.now) names.now) text.items) }
     ensures refused { IfErr result (RefusesOutputs bytes.now (map (λ name. name.now) names.now)) }

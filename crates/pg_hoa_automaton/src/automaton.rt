@@ -9,8 +9,9 @@ use crate::shape::Shape;
 use crate::table::Table;
 use std::marker::Model;
 
-/// A deterministic parity automaton over the letters 0, 1, .. below two to the number of propositions: bit `a` of a letter
-/// is proposition `a`. Its states and sets are numbered from 0. Some of the propositions are the controller's.
+/// A deterministic parity automaton. With p propositions its letters are the numbers below 2 to the power p, and bit
+/// `a` of a letter is proposition `a`. States and sets are numbered from 0. The controller sets some of the
+/// propositions, and the environment the others.
 #[derive(Debug, Drop)]
 pub struct Automaton {
     start: u32,
@@ -35,7 +36,7 @@ impl Model for Automaton {
 impl Automaton {
     ghost use Rattle.pg_hoa_automaton.specs.Mirrors.Views.{viewed};
 
-    /// The automaton of these, where they make one.
+    /// Makes an automaton of these parts, which must fit together.
     pub fn from_parts(
         start: u32,
         names: Vec<Vec<u8>>,
@@ -57,7 +58,7 @@ impl Automaton {
         }
     }
 
-    /// How many states it has: at least 1 and at most 65,535.
+    /// The number of states, from 1 to 65,535.
     pub fn states(&self) -> u32
         ensures value { result ≡ self.now.states }
         ensures automaton { IsAutomaton self.now }
@@ -65,21 +66,21 @@ impl Automaton {
         self.table.states()
     }
 
-    /// The state where a run starts.
+    /// The state in which runs start.
     pub fn start(&self) -> u32
         ensures { result ≡ self.now.start }
     {
         self.start
     }
 
-    /// How many propositions it has: at most 16.
+    /// The number of propositions, at most 16.
     pub fn propositions(&self) -> u32
         ensures { result ≡ length self.now.propositions }
     {
         self.names.len() as u32
     }
 
-    /// The name of proposition `a`: at least one byte, none of them below 32 or 127.
+    /// The name of proposition `a`. It has at least one byte, and no byte below 32 and no byte 127.
     pub fn proposition(&self, a: u32) -> &[u8]
         requires { a < length self.now.propositions }
         ensures { result.now ≡ get_or self.now.propositions a result.now }
@@ -95,23 +96,24 @@ impl Automaton {
         self.controllable[a as usize]
     }
 
-    /// How many sets its acceptance speaks of: at most 4,096.
+    /// The number of acceptance sets, at most 4,096.
     pub fn sets(&self) -> u32
         ensures { result ≡ self.now.sets }
     {
         self.sets
     }
 
-    /// Where the letter leads from the state, and the sets met on the way, those of the state and of the first edge of the
-    /// text that matches, the least first; or that no edge matches.
+    /// The state to which the letter leads from the given state, and the sets that the step meets, in rising order:
+    /// those of the state and those of the first matching edge in the text. None if no edge matches.
     pub fn next(&self, state: u32, letter: u32) -> Option<(u32, &[u32])>
         ensures { option_map (λ x. step x.0 x.1.now) result ≡ next self.now state letter }
     {
         self.table.next(state, letter)
     }
 
-    /// The shape of its acceptance: a condition of this shape, as that of its text, holds of a collection of its sets
-    /// exactly if the least or greatest set there has the shape's parity, or there is none and the shape accepts that.
+    /// The shape of the acceptance condition. A condition of this shape, such as the one in the text, holds for a
+    /// collection of sets if and only if the least or greatest set in it has the parity of the shape, or the collection
+    /// is empty and the shape accepts that.
     pub fn shape(&self) -> Shape
         ensures value { result ≡ self.now.shape }
         ensures says { (condition : Formula) (recurs : ℕ → Bool) → FitsShape condition self.now.sets result

@@ -1,15 +1,15 @@
-//! What is proved of automata: each function's contract is a law, and its body does nothing.
+//! Laws about automata. Each function states one in its contract, and does nothing.
 
 ghost use Rattle.pg_hoa_automaton.specs.Laws.{ShapeTells, RecurringCollected};
 
-/// A condition of one of the six shapes is true of a collection of its sets exactly if the least or greatest set there has
-/// the shape's parity, or there is none and the shape accepts that.
+/// A condition of one of the six shapes holds for a collection of sets if and only if the least or greatest set in it
+/// has the parity of the shape, or the collection is empty and the shape accepts that.
 pub fn shape_tells()
     ensures { ShapeTells }
 {}
 
-/// Of the sets that recur on a word there is a collection, doubly negated: what is said of every such collection isn't said
-/// of none.
+/// The sets that recur on a word form a collection, up to double negation: a claim about every such collection is never
+/// vacuous.
 pub fn recurring_collected()
     ensures { RecurringCollected }
 {}

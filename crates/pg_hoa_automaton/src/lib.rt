@@ -1,4 +1,4 @@
-//! Automata: deterministic, with a parity condition.
+//! Deterministic automata with a parity condition.
 #![tactic(auto)]
 
 mod automaton;

@@ -1,6 +1,6 @@
 //! The six shapes of a parity condition.
 
-/// Which collections of sets satisfy the condition, if they are those that recur on a run.
+/// Which collections of recurring sets satisfy the condition.
 #[derive(Clone, Copy, Debug, PartialEq, Eq)]
 pub enum Shape {
     /// The greatest set is even.

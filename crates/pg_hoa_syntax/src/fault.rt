@@ -6,7 +6,7 @@ ghost use Rattle.pg_hoa_syntax.specs.declared.fault.Refusal.TheVariants.{Memory}
 use std::alloc::{AllocError, AllocFailed};
 use std::fmt;
 
-/// What this reader of HOA v1 leaves out, by its name.
+/// A part of HOA v1 that this reader doesn't support.
 #[derive(Clone, Copy, Debug, PartialEq, Eq)]
 pub enum LeftOutName {
     /// The header `Alias:`, or a name that begins with `@`.
@@ -50,8 +50,8 @@ impl fmt::Display for LeftOutName {
     }
 }
 
-/// What is wrong with a text, or with its last part: in place of an offset stands how many bytes are left from the token at
-/// fault on.
+/// What is wrong with a text, or with its last part. In place of an offset it has the number of bytes from the token at
+/// fault to the end.
 #[derive(Clone, Copy)]
 pub enum PartFault {
     Syntax(usize),
@@ -68,7 +68,7 @@ pub enum PartFault {
 pub enum Refusal {
     /// A growth was refused.
     Memory,
-    /// The text isn't good, whatever the memory.
+    /// The text is wrong, however much memory there is.
     Wrong(PartFault),
 }
 

@@ -1,4 +1,4 @@
-//! What a text in HOA v1 says of an automaton: its headers, and the edges of each state.
+//! The contents of a text in HOA v1: its headers, and the edges of each state.
 #![tactic(auto)]
 
 mod body;

@@ -1,4 +1,4 @@
-//! Which headers a text has, and the text with one more.
+//! Looks for a header in a text, and adds one.
 
 ghost use Rattle.std.specs.Prelude.{◌≡◌, ◌<◌, ◌++◌, ℕ, List, IfOk, OnOk, option_map};
 ghost use Rattle.std.specs.List.{All};
@@ -44,7 +44,8 @@ fn behind_version(bytes: &[u8]) -> Result<&[u8], Refusal>
     version(opening(bytes)?)
 }
 
-/// Whether a header of this name is written.
+/// Whether the text has a header with this name. Fails if the text doesn't begin with `HOA: v1`, or if a token can't be
+/// read before the header, or before `--BODY--` if there is no such header.
 pub fn has_header(bytes: &[u8], name: &[u8]) -> Result<bool, Refusal>
     ensures { IfOk result (λ found. (w : Written) → IsText bytes.now w → found ≡ has_header name.now w) }
 {
@@ -63,7 +64,8 @@ fn add_control(text: &mut Vec<u8>, number: u32) -> Result<(), AllocError>
     }
 }
 
-/// The same text, with a header ahead of the others by which the controller sets these propositions.
+/// Returns the text with the header `controllable-AP` before all others, by which the controller sets the propositions
+/// with these numbers. Fails if the text doesn't begin with `HOA: v1`, or if memory runs out.
 pub fn with_controls(alloc: Global, bytes: &[u8], controls: &[u32]) -> Result<Vec<u8>, Refusal>
     requires { All (λ n. n < 16) controls.now }
     ensures { IfOk result (λ text. (w : Written) → IsText bytes.now w → IsText text.items (with_controls controls.now w)) }

@@ -1,4 +1,4 @@
-//! What a text says.
+//! The contents of a text.
 
 ghost use Rattle.std.specs.Prelude.{◌≡◌, ◌≤◌, ◌<◌, ◌*◌, ◌^◌, length, map, IfOk, IfErr, MatchBool};
 ghost use Rattle.pg_hoa_syntax.specs.Mirrors.Steps.{Gives};
@@ -15,8 +15,8 @@ use crate::token::{Token, next_token};
 use pg_hoa_automaton::Shape;
 use std::alloc::Global;
 
-/// What a text says of an automaton: its count of states, its start, the names of propositions, for each of them whether the
-/// controller sets it, the count of sets, the shape of the condition, and the edges of each state that has a line.
+/// The contents of a text: the number of states, the start, the names of the propositions, for each proposition whether
+/// the controller sets it, the number of sets, the shape of the condition, and the edges of each state that has a line.
 #[derive(Drop)]
 pub struct Syntax {
     pub states: u32,
@@ -28,7 +28,7 @@ pub struct Syntax {
     pub lines: Vec<ReadState>,
 }
 
-/// Reads what a text says, within the limits of an automaton, up to whether its edges agree.
+/// Reads a text within the limits of automata. It doesn't check whether the edges agree.
 pub fn read_syntax(alloc: Global, bytes: &[u8]) -> Result<Syntax, Refusal>
     ensures found { IfOk result (IsSyntaxOf bytes.now) }
     ensures refused { IfErr result (SaysNothing bytes.now) }
