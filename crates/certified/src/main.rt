@@ -3,6 +3,7 @@
 #![tactic(auto)]
 
 use pg_arena::Game;
+use pg_search::{propose, propose_measure};
 use pg_solver::{Found, measure, solve};
 use pg_text::read_game;
 use std::alloc::{AllocError, Global};
@@ -18,12 +19,14 @@ fn way(map: &Found) -> &'static str {
 
 /// How the map of a game alone is found.
 fn way_of_measure(alloc: Global, game: &Game) -> Result<&'static str, AllocError> {
-    Ok(way(&measure(alloc, game)?))
+    let proposal = propose_measure(alloc, game)?;
+    Ok(way(&measure(alloc, game, proposal)?))
 }
 
 /// How those of a game and of its dual are found: both in one way.
 fn way_of_solve(alloc: Global, game: &Game) -> Result<&'static str, AllocError> {
-    Ok(way(&solve(alloc, game)?.of_game))
+    let proposals = propose(alloc, game)?;
+    Ok(way(&solve(alloc, game, proposals)?.of_game))
 }
 
 fn main(rt: HostRuntime) -> io::Result<()> {

@@ -1,4 +1,4 @@
-//! Games from their lines.
+//! Builds games line by line.
 
 ghost use Rattle.std.specs.Prelude.{◌≡◌, ◌++◌, ◌∷◌, [], IsTrue, OnOk, OnErr, IfOk, IfErr, MatchResult, List, option_copied};
 ghost use Rattle.std.specs.List.Sorted.{IsStrictlyIncreasing};
@@ -15,7 +15,8 @@ use crate::player::Player;
 use std::alloc::{AllocError, Global};
 use std::marker::Model;
 
-/// Takes the lines of a game one after another, each the whole of a vertex. Contracts see the lines that it took.
+/// A builder that takes the lines of a game one after another; a line describes one vertex. Contracts see the list of
+/// the lines that it took.
 #[derive(Drop)]
 pub struct GameBuilder {
     lines: GivenLines,
@@ -32,7 +33,7 @@ impl Model for GameBuilder {
 }
 
 impl GameBuilder {
-    /// A builder without a line.
+    /// A builder without lines.
     pub fn new(alloc: Global) -> GameBuilder
         ensures { result ≡ [] }
     {
@@ -42,13 +43,13 @@ impl GameBuilder {
         }
     }
 
-    /// Adds a line: a vertex by its identifier, and its successors by theirs, in any order. A repeated successor counts
-    /// once.
+    /// Adds a line: a vertex by its identifier, with its successors by theirs, in any order. A repeated successor
+    /// counts once.
     ///
-    /// Refuses, the first that fits: `PriorityTooLarge` for a priority over 65,535; `NoSuccessor`; `DuplicateVertex` if
-    /// an earlier line has the identifier; `TooManyVertices` after 1,048,576 lines; `TooManyEdges` if the edges would
-    /// be over 8,388,608. The builder is then as it was, and so it is after `OutOfMemory`, which may come at any
-    /// growth.
+    /// It fails with the first of these that applies: `PriorityTooLarge` for a priority over 65,535; `NoSuccessor`;
+    /// `DuplicateVertex` if an earlier line has the identifier; `TooManyVertices` after 1,048,576 lines; `TooManyEdges`
+    /// if there would be more than 8,388,608 edges. `OutOfMemory` can come at any point. After a fault the builder is
+    /// as it was.
     #[inline(always)]
     pub fn add(
         &mut self,
@@ -72,11 +73,11 @@ impl GameBuilder {
             .add(identifier, priority, owner, &self.buffer, name)
     }
 
-    /// The game of the lines, in whatever order they came.
+    /// Makes the game of the lines, which may have come in any order.
     ///
-    /// Refuses with `NoVertex` if there is no line; then with `UnknownSuccessor` if no line defines some successor: it
-    /// names the line of the least identifier with such a successor, and the least of these there; else only with
-    /// `OutOfMemory`, which may come ahead of `UnknownSuccessor`.
+    /// It fails with `NoVertex` if there is no line; then with `UnknownSuccessor` if no line defines some successor: it
+    /// names the least identifier whose line has such a successor, and the least of these successors. Otherwise it
+    /// fails only with `OutOfMemory`, which may come before `UnknownSuccessor`.
     pub fn finish(self) -> Result<Game, ArenaFault>
         ensures game { IfOk result (λ game. IsGameOf self game) }
         ensures only { (game : List GameVertex) → IsGameOf self game

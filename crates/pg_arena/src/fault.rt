@@ -7,7 +7,7 @@ use std::alloc::{AllocError, AllocFailed};
 use std::error::Error;
 use std::fmt;
 
-/// Why lines make no game. Numbers are identifiers, but for the second of `PriorityTooLarge`.
+/// Why lines make no game. Numbers are identifiers, except for the second one of `PriorityTooLarge`.
 #[derive(Clone, Copy, Debug, PartialEq, Eq)]
 pub enum ArenaFault {
     /// A growth was refused.
@@ -18,11 +18,11 @@ pub enum ArenaFault {
     NoSuccessor(u32),
     /// The line of the first identifier has the second as a successor, which no line defines.
     UnknownSuccessor(u32, u32),
-    /// A line over 1,048,576.
+    /// There are already 1,048,576 lines.
     TooManyVertices,
-    /// The line's successors, each counted once, are over 8,388,608 together with those before.
+    /// With the successors of this line, each counted once, there would be more than 8,388,608 edges.
     TooManyEdges,
-    /// The line of this identifier has a priority over 65,535, which is the second number.
+    /// The line with this identifier has a priority over 65,535, the second number.
     PriorityTooLarge(u32, u32),
     /// No line was added.
     NoVertex,

@@ -16,7 +16,7 @@ use std::alloc::{AllocError, Global};
 use std::marker::Model;
 use std::rc::Rc;
 
-/// A parity game. Contracts see the list of its vertices by rising identifier.
+/// A parity game. Contracts see the list of its vertices in rising order of identifiers.
 #[derive(Drop)]
 pub struct Game {
     entries: Vec<Entry>,
@@ -77,7 +77,7 @@ impl Game {
         Ok(Game { entries, shared })
     }
 
-    /// How many vertices it has: at least 1 and at most 1,048,576.
+    /// The number of vertices, from 1 to 1,048,576.
     pub fn len(&self) -> usize
         ensures value { result ≡ length self.now }
         ensures game { IsGame self.now }
@@ -89,7 +89,7 @@ impl Game {
         identifiers.len()
     }
 
-    /// The identifier of a vertex, by which texts name it.
+    /// The identifier of a vertex, its name in texts.
     pub fn identifier(&self, v: Vertex) -> u32
         requires { v < length self.now }
         ensures { result ≡ identifier self.now v }
@@ -97,7 +97,7 @@ impl Game {
         identifier_at(&self.shared.identifiers, v.0)
     }
 
-    /// The priority of a vertex: at most 65,535, or 65,536 in a dual.
+    /// The priority of a vertex, at most 65,535, or 65,536 in a dual.
     pub fn priority(&self, v: Vertex) -> u32
         requires { v < length self.now }
         ensures { result ≡ priority self.now v }
@@ -122,7 +122,7 @@ impl Game {
         &self.shared.targets[entry.from as usize..entry.to as usize]
     }
 
-    /// The name of a vertex, where it has one.
+    /// The name of a vertex, if it has one.
     pub fn name(&self, v: Vertex) -> Option<&[u8]>
         requires { v < length self.now }
         ensures { option_copied result ≡ name self.now v }
@@ -131,8 +131,8 @@ impl Game {
         name_at(&self.shared.names, place)
     }
 
-    /// The vertex with this identifier, if there is one. It takes a binary search, or one look where no identifier
-    /// between the least and this one is left out.
+    /// The vertex with this identifier, if there is one. It takes a binary search, or constant time if every identifier
+    /// between the least one and this one is used.
     pub fn vertex_of(&self, identifier: u32) -> Option<Vertex>
         ensures found { IfSome result (λ v. (v < length self.now) × ((vertex_at self.now v).identifier ≡ identifier)) }
         ensures missing { IfNone result
@@ -147,9 +147,9 @@ impl Game {
     }
 }
 
-/// The dual of a game: owners swapped and each priority raised by one, identifiers, names and edges kept. A player wins
-/// in it what the other player wins in the game. No priority may be over 65,535. Refuses only with `OutOfMemory`.
-/// Identifiers, names and edges stand in memory once for both.
+/// Makes the dual of a game: it swaps owners, raises each priority by one, and keeps identifiers, names and edges. Each
+/// player wins in the dual what the other one wins in the game. No priority may be over 65,535. It fails only with
+/// `OutOfMemory`. Game and dual share the memory for identifiers, names and edges.
 pub fn dual(alloc: Global, game: &Game) -> Result<Game, ArenaFault>
     requires { HasPrioritiesUpTo MAX_PRIORITY game.now }
     ensures dual { IfOk result (λ d. d ≡ dual game.now) }

@@ -1,10 +1,10 @@
-//! How large a game may be.
+//! The limits on games.
 
 /// The greatest priority of a game; that of a dual is one more.
 pub const MAX_PRIORITY: u32 = 65_535;
 
-/// How many vertices a game may have.
+/// The greatest number of vertices in a game.
 pub const MAX_VERTICES: usize = 1_048_576;
 
-/// How many edges a game may have, a repeated successor counted once.
+/// The greatest number of edges in a game; a repeated successor counts once.
 pub const MAX_EDGES: usize = 8_388_608;

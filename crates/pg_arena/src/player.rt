@@ -3,7 +3,7 @@
 ghost use Rattle.std.specs.Prelude.{◌≡◌};
 ghost use Rattle.pg_arena.specs.Games.{opponent};
 
-/// Who owns or wins a vertex: Even is player 0 of the PGSolver format, Odd is player 1.
+/// A player, who owns or wins vertices: Even is player 0 of PGSolver's format, Odd is player 1.
 #[derive(Clone, Copy, Debug, PartialEq, Eq)]
 pub enum Player {
     Even,

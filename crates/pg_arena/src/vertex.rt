@@ -2,7 +2,7 @@
 
 use std::marker::Model;
 
-/// The vertex with this number: vertices are counted from 0 by rising identifier. Contracts see the number.
+/// The vertex with this number; numbers count from 0 in rising order of identifiers. Contracts see the number.
 #[derive(Clone, Copy, Debug, PartialEq, Eq, PartialOrd, Ord)]
 pub struct Vertex(pub u32);
 

@@ -17,10 +17,11 @@ use pg_map::{Dual, Lines, MeasureMap, View};
 use pg_text::Solution;
 use std::alloc::Global;
 
-/// Whether the maps certify the solution. The first has to be over the game's vertices and bounds, the second over
-/// those of its dual; they needn't be closed. True exactly if each vertex that Even wins has a list in the first map
-/// and every edge that counts leads from it to a vertex that Even wins and that serves it there, and the same holds for
-/// Odd with the second map and the dual. Then the solution is sound. Takes no memory.
+/// Whether two maps certify a solution. The first map must have the vertices and bounds of the game, the second those
+/// of its dual; neither has to be closed. The answer is true if and only if two conditions hold: each vertex that Even
+/// wins has a list in the first map, and every edge from it that the solution allows leads to a vertex that Even wins
+/// and that serves it in the first map; and the same holds for Odd with the second map and the dual. Then the solution
+/// is sound. It takes no memory.
 pub fn certifies(game: &Game, solution: &Solution, even: &MeasureMap, odd: &MeasureMap) -> bool
     requires solution { IsSolution game.now solution.now }
     requires even_size { length even.now.measures ≡ length game.now }
@@ -43,10 +44,10 @@ pub fn certifies(game: &Game, solution: &Solution, even: &MeasureMap, odd: &Meas
     true
 }
 
-/// Whether a solution is sound, as `check` says it. Where the maps certify the solution the answer is `Wins`, and no
-/// memory is taken. The condition on the maps is that of `certifies`.
+/// Whether a solution is sound, with the verdict that `check` gives. If the maps certify the solution, the answer is
+/// `Wins`, and the call takes no memory. The maps must meet the condition of `certifies`.
 ///
-/// Refuses for want of memory only, with `OutOfMemory`.
+/// It fails only with `OutOfMemory`.
 pub fn check_with(
     alloc: Global,
     game: &Game,

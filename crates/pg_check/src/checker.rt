@@ -1,4 +1,4 @@
-//! The checker: whether a solution is sound.
+//! The checker, which decides whether a solution is sound.
 
 ghost use Rattle.std.specs.Prelude.{◌≡◌, ◌↔◌, ◌<◌, length, IfOk, IfErr, IfSome, IfNone};
 ghost use Rattle.pg_arena.specs.Games.{IsGame};
@@ -86,11 +86,12 @@ fn bad_cycle(
     search_each(alloc, game, solution)
 }
 
-/// Whether a solution is sound. `Wins` if it is. `Leaves` where an edge that counts joins vertices with different
-/// winners: the least, by where it comes from and then where it leads. `BadCycle` else.
+/// Decides whether a solution is sound. `Wins`: it is. `Leaves`: an edge that the solution allows joins vertices with
+/// different winners; the edge is the least one, compared first by its source and then by its target. `BadCycle`: there
+/// is no such edge, and there is a cycle that the loser wins.
 ///
-/// Takes time linear in the edges, times at most the logarithm of the greatest priority; and room for a few numbers for each
-/// vertex and edge. Refuses for want of memory only, with `OutOfMemory`.
+/// The time is linear in the edges, times at most the logarithm of the greatest priority. It takes memory for a few
+/// numbers for each vertex and edge. It fails only with `OutOfMemory`.
 pub fn check(alloc: Global, game: &Game, solution: &Solution) -> Result<Verdict, CheckFault>
     requires { IsSolution game.now solution.now }
     ensures wins { IfOk result (λ verdict. IsWins verdict ↔ IsSound game.now solution.now) }

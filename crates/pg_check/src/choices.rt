@@ -1,4 +1,4 @@
-//! Solutions of measures.
+//! Makes solutions from measures.
 
 ghost use Rattle.std.specs.Prelude.{◌≡◌, ℕ, None, length, Contains, IsSome, IfSome, IfNone, IfOk, IfErr};
 ghost use Rattle.std.specs.List.Sorted.{IsStrictlyIncreasing};
@@ -15,12 +15,13 @@ use pg_map::{Dual, Lines, Measures};
 use pg_text::Solution;
 use std::alloc::Global;
 
-/// The solution of a closed map of the game and a closed map of its dual, whether or not they are the least. Even wins
-/// where the first has a list, Odd where the second has; on a vertex that the winner owns, its choice is the successor
-/// of least identifier that serves the vertex in the winner's map. The solution is sound.
+/// Makes a solution from a closed map of the game and a closed map of its dual, which need not be the least. Even wins
+/// the vertices that have a list in the first map, and Odd those that have one in the second. At a vertex that the
+/// winner owns, the choice is the successor with the least identifier that serves the vertex in the winner's map. The
+/// solution is sound.
 ///
-/// Refuses with `Undecided` of the least identifier at which both maps have top, exactly if there is one, but for want
-/// of memory.
+/// It fails with `Undecided`, for the least identifier at which both maps have top, if and only if there is one, and
+/// with `OutOfMemory` if memory runs out.
 pub fn strategies<E: Measures, O: Measures>(
     alloc: Global,
     game: &Game,

@@ -6,10 +6,10 @@ ghost use Rattle.pg_check.specs.declared.fault.CheckFault.TheVariants.{OutOfMemo
 use std::alloc::{AllocError, AllocFailed};
 use thiserror::Error;
 
-/// Why there is no answer.
+/// Why a call has no answer.
 #[derive(Clone, Copy, Debug, PartialEq, Eq, Error)]
 pub enum CheckFault {
-    /// A growth was refused.
+    /// Memory ran out.
     #[error("out of memory")]
     OutOfMemory,
     /// Neither map has a list at the vertex with this identifier.

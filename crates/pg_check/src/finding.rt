@@ -1,4 +1,4 @@
-//! Sound solutions that are found at once: winners, what they choose and an order are proposed, and looked at.
+//! Finds sound solutions: it proposes winners, choices and an order, and then checks them.
 
 ghost use Rattle.std.specs.Prelude.{◌≡◌, ◌<◌, length, IfOk, IfSome};
 ghost use Rattle.std.specs.Bool.{OnTrue};
@@ -140,8 +140,9 @@ fn propose(alloc: Global, game: &Game) -> Result<Ordered, AllocError>
     solved_by(alloc, game, &winners)
 }
 
-/// A sound solution of a game: whichever is found. It has a choice exactly where the winner owns the vertex. None where what is found isn't
-/// accepted; no game is known at which that happens. It is refused for want of memory only.
+/// Finds a sound solution of a game; the contract doesn't say which one. It has a choice at a vertex if and only if the
+/// winner owns the vertex. The answer is None if the proposal turns out to be wrong; no game is known for which that
+/// happens. It fails only if memory runs out.
 pub fn find_solution(alloc: Global, game: &Game) -> Result<Option<Solution>, AllocError>
     ensures { IfOk result (λ found. IfSome found (IsSoundSolution game.now)) }
 {

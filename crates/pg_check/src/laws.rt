@@ -1,4 +1,4 @@
-//! Laws over the definitions. Their functions take no memory and do nothing: their contracts are what they are for.
+//! Laws that follow from the definitions. Each function states one in its contract, and does nothing.
 
 ghost use Rattle.std.specs.Prelude.{List};
 ghost use Rattle.pg_arena.specs.Games.{IsGame, priority};
@@ -10,8 +10,8 @@ ghost use Rattle.pg_check.specs.Laws.{OneRecurring, HasOneLoser, SoundWins, Keep
 
 use crate::play::Play;
 
-/// No play has two greatest recurring priorities, and none is without one. So none is lost by both players or by
-/// neither.
+/// No play has two greatest recurring priorities, and it is impossible that a play has none. So no play is lost by both
+/// players, and it is impossible that one is lost by neither.
 pub fn one_recurring()
     ensures { OneRecurring }
 {}
@@ -22,8 +22,8 @@ pub fn one_recurring_of<P: Play>(play: &P)
     ensures { HasOneLoser (λ t. priority (P.game play.now) (P.vertex play.now t)) }
 {}
 
-/// In a sound solution each play that follows it stays with the winner of its first vertex, meets the loser's greatest
-/// priority in no finite part more often than the game has vertices, and is won by that winner.
+/// In a sound solution each play that follows it stays among the vertices of its first vertex's winner. No finite part
+/// of it meets the loser's greatest priority more often than the game has vertices, and that winner wins it.
 pub fn sound_wins()
     ensures { SoundWins }
 {}
@@ -37,14 +37,14 @@ pub fn sound_wins_of<P: Play>(play: &P)
         × WinsPlay (winner solution (P.vertex play.now 0)) (λ t. priority (P.game play.now) (P.vertex play.now t)) }
 {}
 
-/// A solution is sound exactly if each winner wins by it: every play that follows it from the vertex stays with the
-/// winner and is won by that player.
+/// A solution is sound if and only if each winner wins by it: every play that follows it from a vertex stays among the
+/// vertices of that vertex's winner, and that player wins it.
 pub fn sound_iff_wins()
     ensures { SoundIffWins }
 {}
 
-/// A solution is sound exactly if no edge that counts joins vertices with different winners, and no cycle of such edges
-/// has a greatest priority of the loser's parity.
+/// A solution is sound if and only if no edge that it allows joins vertices with different winners, and the greatest
+/// priority on each cycle of such edges has the parity of the winner.
 pub fn sound_iff_safe()
     ensures { SoundIffSafe }
 {}
@@ -56,8 +56,8 @@ pub fn one_winner()
 
 ghost use Rattle.pg_check.specs.Strategies.{ListsWin, NoListInBoth, DecidedMapsSolve, ClosedMapsSound, CertifiedSound};
 
-/// In a closed map of a game, from each vertex with a list Even wins every play in which it goes to successors that
-/// serve.
+/// In a closed map of a game, Even wins every play from a vertex with a list in which Even moves only to successors
+/// that serve.
 pub fn lists_win()
     ensures { ListsWin }
 {}
@@ -67,17 +67,17 @@ pub fn no_list_in_both()
     ensures { NoListInBoth }
 {}
 
-/// Closed maps of a game and of its dual that aren't both top at a vertex have a solution.
+/// If a closed map of a game and one of its dual are nowhere both top, they have a solution.
 pub fn decided_maps_solve()
     ensures { DecidedMapsSolve }
 {}
 
-/// The solution of a closed map of the game and one of its dual is sound, whether or not they are the least.
+/// The solution of a closed map of the game and one of its dual is sound, even if the maps are not the least.
 pub fn closed_maps_sound()
     ensures { ClosedMapsSound }
 {}
 
-/// A solution that two maps certify is sound, whether or not they are closed.
+/// A solution that two maps certify is sound, even if they are not closed.
 pub fn certified_sound()
     ensures { CertifiedSound }
 {}

@@ -1,5 +1,5 @@
-//! Solutions of parity games: which of them are sound, what a sound solution does for endless plays, and how one
-//! is made from measures, found at once, and checked.
+//! Solutions of parity games: which of them are sound, what a sound solution means for endless plays, and three ways to
+//! get one: from measures, by a search, and by checking one that is given.
 #![tactic(auto)]
 
 mod certificate;

@@ -68,13 +68,13 @@ SendsNoFrame bytes old new =
     MatchBool old.has_refused (new ≡ old)
     ((why : WireFault) × IsNoFrame bytes why × Reports (Wire why) old.waiting new)
 
--- after want of memory in its turn the session holds nothing
+-- if memory runs out in its turn, the session holds nothing
 pub record Empties (f : Frame) (old new : MemoryValue) : Type 0 where
   pub held : new.held ≡ None
   pub waiting : new.waiting ≡ still_waiting f old.waiting
   pub refused : new.has_refused ≡ old.has_refused
 
--- want of memory: nothing has changed, or it came in the turn of a frame
+-- memory ran out: nothing has changed, or it came in the turn of a frame
 abbrev pub BreaksOff : List ℕ → MemoryValue → MemoryValue → Type 0
 BreaksOff bytes old new = (new ≡ old) ⊎ ((f : Frame) × Spells f bytes × Empties f old new)
 

@@ -1,5 +1,5 @@
-//! The coordinator: it solves a game over links to workers, whatever they answer. Workers are in this process, or in programs of
-//! their own.
+//! The coordinator. It solves a game over links to workers, which need not be trusted. The workers are in this process,
+//! or in programs of their own.
 #![tactic(auto)]
 
 mod memory;

@@ -3,8 +3,6 @@
 ghost use Rattle.std.specs.Prelude.{◌≡◌, ◌≢◌, ◌↔◌, ◌⊎◌, ◌≤◌, ◌++◌, ℕ, List, [], None, length, drop, IsOk, OnOk, OnErr, IfErr};
 ghost use Rattle.pg_map.specs.Maps.{MapValue};
 ghost use Rattle.pg_wire.specs.declared.frame.Frame.{Frame};
-ghost use Rattle.pg_wire.specs.Spelling.{body, longest};
-ghost use Rattle.pg_wire.specs.Well.{IsWell};
 ghost use Rattle.pg_wire.specs.Bytes.{Spells};
 ghost use Rattle.pg_coord_partition.specs.Frames.{IsAtLeast, measures_in};
 ghost use Rattle.pg_worker.specs.Above.{AreFrames};
@@ -19,10 +17,11 @@ use pg_worker::{Session, WorkerFault};
 use std::alloc::Global;
 use std::marker::Model;
 
-/// A worker in the same process, behind encoded frames. What it answers waits here until it is received.
+/// A worker in the same process, behind encoded frames. Its replies wait here until they are received.
 ///
-/// A frame that the worker refuses is answered by the report of the fault, if it has one; until the link is restarted it
-/// then drops what is sent. A set-up drops what waits, also where it is refused or dropped.
+/// If the worker refuses a frame, the reply is the report of the fault, if the fault has one; until the link is
+/// restarted it then drops what is sent. A set-up discards the waiting replies, even if the worker refuses the set-up
+/// or the link drops it.
 #[derive(Drop)]
 pub struct MemoryLink {
     alloc: Global,
@@ -54,14 +53,14 @@ impl Model for MemoryLink {
 }
 
 impl MemoryLink {
-    /// A link to a worker that takes set-ups of both versions of the wire format.
+    /// A link to a worker that accepts set-ups of both versions of the wire format.
     pub fn new(alloc: Global) -> Result<MemoryLink, LinkFault>
         ensures { result ≡ Ok (started_link 2 0) }
     {
         MemoryLink::limited(alloc, 2)
     }
 
-    /// A link to a worker that takes set-ups of versions up to `highest`, which is 1 or 2.
+    /// A link to a worker that accepts set-ups of versions up to `highest`, which is 1 or 2.
     pub fn limited(alloc: Global, highest: u8) -> Result<MemoryLink, LinkFault>
         ensures { result ≡ Ok (started_link highest 0) }
     {
@@ -128,10 +127,9 @@ impl MemoryLink {
         Ok(())
     }
 
-    /// Lets the session do the turn of a frame, unless it has refused one.
-    fn take(&mut self, frame: &Frame) -> Result<(), LinkFault>
-        requires well { IsWell frame.now }
-        requires within { length (body frame.now) ≤ longest }
+    /// Lets the session do the turn of the frame that the bytes spell, unless it has refused one.
+    fn take(&mut self, frame: &Frame, bytes: &[u8]) -> Result<(), LinkFault>
+        requires { Spells frame.now bytes.now }
         ensures ok { OnOk result (Sends frame.now self.old self.new) }
         ensures memory { IfErr result (λ e. (e ≡ LinkFault.OutOfMemory) × Empties frame.now self.old self.new) }
         ensures highest { self.new.highest ≡ self.old.highest }
@@ -141,7 +139,7 @@ impl MemoryLink {
         if self.has_refused {
             return Ok(());
         }
-        match self.session.frame(frame, &mut self.waiting) {
+        match self.session.frame_from(bytes, &mut self.waiting) {
             Ok(_) => Ok(()),
             Err(fault) => self.refuse(fault),
         }
@@ -203,7 +201,7 @@ impl Link for MemoryLink {
             return Ok(());
         }
         match decode(self.alloc, frame) {
-            Ok(frame) => self.take(&frame),
+            Ok(told) => self.take(&told, frame),
             Err(WireFault::OutOfMemory) => Err(LinkFault::OutOfMemory),
             Err(_) if self.has_refused => Ok(()),
             Err(fault) => self.refuse(WorkerFault::Wire(fault)),

@@ -82,7 +82,7 @@ pub fn is_orphaned<R: Files>(rt: &R, alloc: Global, from: u16, to: u16) -> io::R
     Ok(matches!(socket, Some(Socket { number: 0, .. })))
 }
 
-/// Whether a program holds the socket of this name; none where the system doesn't tell what it holds. Fails for want of memory alone.
+/// Whether a program holds the socket of this name; None if the system doesn't show what it holds. Fails only if memory runs out.
 fn holds<R: Files>(rt: &R, alloc: Global, program: u32, socket: &str) -> io::Result<Option<bool>> {
     for number in 0..MOST_DESCRIPTORS {
         let path = format!(in alloc; "/proc/{program}/fd/{number}")?;

@@ -13,13 +13,14 @@ use std::marker::Model;
 use std::process::{Child, OpenProcess};
 use std::time::{Duration, Instant};
 
-/// A link to a worker program: `PATH worker --port P`, started by `prepare` or at the first send, which connects to the port P of
-/// 127.0.0.1.
+/// A link to a worker program, `PATH worker --port P`, which connects to port P of 127.0.0.1. `prepare` or the first
+/// send starts it.
 ///
-/// What it answers, and whether it answers, is the program's matter: the link is neither honest by contract nor does it tell
-/// its replies. No call waits without end for a program that runs: it has 10 seconds to connect and as many for its first reply, and
-/// 60 seconds for each further reply and to take a frame. Where it neither connects in time nor ends, no other one is started. How
-/// long the system takes to start it isn't limited. A link that is dropped without `close` leaves the program running.
+/// The contract assumes nothing about the program's answers: the link is neither honest nor does it tell its replies.
+/// No call waits for ever for a program that runs. The program has 10 seconds to connect and 10 for its first reply,
+/// and 60 seconds for each further reply and for taking a frame. If it neither connects in time nor ends, no other one
+/// is started. There is no limit on how long the system takes to start it. If you drop a link without `close`, the
+/// program goes on running.
 #[derive(Drop)]
 pub struct SocketLink<R: Reach> {
     rt: R,
@@ -52,7 +53,7 @@ impl<R: Reach> Model for SocketLink<R> {
     } };
 }
 
-/// The fault of a link for an error of the system or for want of memory.
+/// The fault of a link when the system reports an error or memory runs out.
 fn fault_of(error: &io::Error) -> LinkFault {
     if is_want_of_memory(error) {
         LinkFault::OutOfMemory
@@ -77,9 +78,9 @@ fn kill<P: OpenProcess>(program: &mut Child<P>) {
 }
 
 impl<R: Reach> SocketLink<R> {
-    /// A link that has started nothing yet. It listens on 127.0.0.1, at a port that the system picks.
+    /// A link that has started no program yet. It listens on 127.0.0.1, at a port that the system picks.
     ///
-    /// Faults: Failed where it can't listen, which is counted nowhere; `OutOfMemory`.
+    /// Faults: `Failed` if it can't listen, which no count includes; `OutOfMemory`.
     pub fn listen(rt: R, alloc: Global, path: &str) -> Result<SocketLink<R>, LinkFault>
         ensures { IfOk result (λ link. link ≡ idle_link) }
     {
@@ -101,15 +102,15 @@ impl<R: Reach> SocketLink<R> {
         }
     }
 
-    /// Gives the link so many seconds in all, from where a program is first started. Behind these no program is started, nothing is
-    /// waited for, and what waits for the program isn't sent: calls are Failed at once.
+    /// Limits the link to this many seconds in all, from when it first starts a program. After that it starts no
+    /// program, waits for nothing and sends nothing that waits: calls fail at once with `Failed`.
     pub fn limit(&mut self, seconds: u64)
         ensures { self.new ≡ self.old }
     {
         self.time = Some(Duration::from_secs(seconds));
     }
 
-    /// Whether there is a program, also one that has ended.
+    /// Whether the link has a program, running or ended.
     pub fn has_program(&self) -> bool
         ensures { result ≡ self.now.has_program }
     {
@@ -169,7 +170,7 @@ impl<R: Reach> SocketLink<R> {
         self.connect(accepted)
     }
 
-    /// Kills the program, if there is one that runs, and waits for it. The connection stays.
+    /// Kills the program if it runs, and waits for it to end. The connection stays.
     pub fn kill(&mut self)
         ensures { self.new ≡ self.old }
     {

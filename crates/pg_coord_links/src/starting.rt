@@ -56,7 +56,7 @@ fn spawn<R: Reach>(rt: &R, alloc: Global, path: &str, port: u16) -> io::Result<C
 }
 
 /// Whether a connection from this address to the port is to be dropped: another program made it, as far as the tables of the
-/// system tell. Fails for want of memory, and where the table of sockets can't be read.
+/// system tell. Fails if memory runs out or the table of sockets can't be read.
 fn is_foreign<R: Reach>(
     rt: &R,
     alloc: Global,

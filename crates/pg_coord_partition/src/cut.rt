@@ -26,8 +26,8 @@ impl Model for Cut {
 }
 
 impl Cut {
-    /// The vertices in runs of like length: the vertex v belongs to the worker `1 + v * workers / vertices`, rounded down. With 0
-    /// workers they belong to nobody.
+    /// Cuts the vertices into runs of about equal length: vertex v belongs to worker `1 + v * workers / vertices`,
+    /// rounded down. With 0 workers they belong to nobody. Fails only if memory runs out.
     pub fn even(alloc: Global, vertices: u32, workers: u32) -> Result<Cut, AllocError>
         ensures { IfOk result (IsEvenCut vertices workers) }
     {
@@ -38,7 +38,8 @@ impl Cut {
         Ok(Cut { workers, numbers })
     }
 
-    /// The cut with these numbers of workers, one for each vertex. None if a number isn't between 1 and `workers`.
+    /// The cut that gives each vertex the worker with the number in the list. None if a number isn't between 1 and
+    /// `workers`. Fails only if memory runs out.
     pub fn from_list(alloc: Global, workers: u32, list: &[u32]) -> Result<Option<Cut>, AllocError>
         ensures cut { IfOk result (λ o. IfSome o (λ c. (c.workers ≡ workers) × (c.numbers ≡ list.now)
             × NameWorkers workers list.now)) }
@@ -52,14 +53,14 @@ impl Cut {
         Ok(Some(Cut { workers, numbers }))
     }
 
-    /// How many vertices there are.
+    /// The number of vertices.
     pub fn vertices(&self) -> usize
         ensures { result ≡ length self.now.numbers }
     {
         self.numbers.len()
     }
 
-    /// How many workers there are.
+    /// The number of workers.
     pub fn workers(&self) -> u32
         ensures { result ≡ self.now.workers }
     {

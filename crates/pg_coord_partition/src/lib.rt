@@ -1,4 +1,5 @@
-//! What a coordinator and its workers have in common: cuts of a game, what frames tell of it, and links over which frames go.
+//! Common parts of a coordinator and its workers: cuts of a game, the lines and measures in frames, and links that
+//! carry frames.
 #![tactic(auto)]
 
 mod cut;

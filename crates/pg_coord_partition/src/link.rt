@@ -9,7 +9,7 @@ ghost use Rattle.pg_coord_partition.specs.Links.{IsUnderAfter, CountsFailure, Se
 
 use std::alloc::AllocError;
 
-/// Why a call of a link was refused.
+/// Why a call of a link failed.
 #[derive(Clone, Copy, Debug, PartialEq, Eq)]
 pub enum LinkFault {
     /// The allocator refused a growth.
@@ -28,23 +28,23 @@ impl From<AllocError> for LinkFault {
     }
 }
 
-/// A worker at the other end of something, to which frames are sent and from which frames are received. Nothing that it
-/// answers has to be believed: whether a link is honest stands in contracts alone.
+/// A connection to a worker, over which frames are sent and received. Nobody has to trust its replies: only contracts
+/// speak of whether a link is honest.
 pub trait Link {
-    /// How many calls were `Failed`, up to 18,446,744,073,709,551,615.
+    /// The number of calls that were `Failed`, up to 18,446,744,073,709,551,615.
     ghost failures: { Self → ℕ };
 
-    /// Whether each value handed back is at most every map that the link is under.
+    /// Whether each value that it returns is at most that of every map that the link is under.
     ghost is_honest: { Self → Type 0 };
 
-    /// Which maps the link is under: those that are closed at the vertices that it was told and at least the values that
-    /// it was sent, since its set-up.
+    /// The maps that the link is under: those that are closed at the vertices that it was sent, and at least the values
+    /// that it was sent, since its set-up.
     ghost is_under: { Self → MapValue → Type 0 };
 
     /// Whether the worker was started anew, and nothing was sent to it since.
     ghost is_anew: { Self → Type 0 };
 
-    /// The frames that the link will still hand over, where it tells.
+    /// The frames that the link will still return, if it tells them.
     ghost told: { Self → Option (List (List ℕ)) };
 
     /// Told before the link is set up, so that what takes time may begin. Nothing that is known of the link changes.

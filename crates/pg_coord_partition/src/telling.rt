@@ -1,4 +1,4 @@
-//! What a worker is told of a game.
+//! The lines of a game that a worker gets.
 
 ghost use Rattle.std.specs.Prelude.{◌≡◌, ◌≤◌, ◌<◌, ◌*◌, ◌↔◌, length, IsTrue, IfOk, OnOk};
 ghost use Rattle.pg_arena.specs.Games.{vertex_at};
@@ -62,7 +62,7 @@ fn fill_numbers(vertices: &[Vertex], numbers: &mut Vec<u32>) -> Result<(), Alloc
     Ok(())
 }
 
-/// What a worker is told of a vertex of a game; its successors are put into a vector that is kept, in place of what it held.
+/// The line of a vertex for a worker. Its successors replace what the vector held.
 pub fn fill_line(game: &Game, v: Vertex, successors: &mut Vec<u32>) -> Result<LineHead, AllocError>
     requires { v < length game.now }
     ensures vertex { IfOk result (λ head. head.vertex ≡ v) }
@@ -83,7 +83,7 @@ pub fn fill_line(game: &Game, v: Vertex, successors: &mut Vec<u32>) -> Result<Li
     })
 }
 
-/// What a worker is told of a vertex of a game.
+/// The line of a vertex for a worker.
 pub fn line_of(alloc: Global, game: &Game, v: Vertex) -> Result<VertexLine, AllocError>
     requires { v < length game.now }
     ensures vertex { IfOk result (λ l. l.vertex ≡ v) }

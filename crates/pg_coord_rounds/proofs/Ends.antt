@@ -68,6 +68,15 @@ ends_weaker game A B S T links links' most f g rounds honest also same e = recor
   limited = e.limited;
 }
 
+-- rounds that weren't given up found the map
+pub solved_from : (game : List GameVertex) (A : Type 0) (tell : (ℕ → List Reply) → Type 0) (links limit : ℕ) (from : MapValue) (rounds : Option ℕ)
+    (count : ℕ) (solved : Solved) → rounds ≡ Some count → solved.rounds ≡ count → Ends game A tell links limit from solved.map rounds
+    → IsSolvedFrom game A tell links from solved
+solved_from game A tell links limit from rounds count solved is same ends = record {
+  found = ends.found;
+  closes = rw same (rw is at ends.closes);
+}
+
 -- ---- what was solved from zeros
 
 pub some_weaker : {A : Type 0} (o : Option A) (P Q : A → Type 0) → ((x : A) → P x → Q x) → IfSome o P → IfSome o Q

@@ -3,13 +3,13 @@
 use std::alloc::AllocError;
 use thiserror::Error;
 
-/// Why nothing was solved.
+/// Why a call solved nothing.
 #[derive(Clone, Copy, Debug, PartialEq, Eq, Error)]
 pub enum CoordFault {
-    /// A growth was refused, here or in a link.
+    /// Memory ran out, here or in a link.
     #[error("out of memory")]
     OutOfMemory,
-    /// The cut isn't over the game's vertices and as many workers as links.
+    /// The cut doesn't have the vertices of the game, or its number of workers isn't that of the links.
     #[error("the cut does not fit the game")]
     CutMismatch,
 }

@@ -1,4 +1,4 @@
-//! The coordinator's rounds: a game is solved over links to workers, whatever they answer.
+//! The coordinator's rounds, which solve a game over links to workers that need not be trusted.
 #![tactic(auto)]
 
 mod coordinator_map;

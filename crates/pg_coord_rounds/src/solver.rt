@@ -23,8 +23,8 @@ use pg_map::MeasureMap;
 use pg_measure::Bounds;
 use std::alloc::{AllocError, Global};
 
-/// What `solve` found, and after how many rounds, restarts of links and links given up. The counts stop at
-/// 18,446,744,073,709,551,615. No clause speaks of the last two.
+/// The map that `solve` found, and how many rounds it made, how often it restarted links, and how many links it gave
+/// up. The counts stop at 18,446,744,073,709,551,615. No clause says anything about the last two.
 #[derive(Drop)]
 pub struct Solved {
     pub map: MeasureMap,
@@ -94,40 +94,7 @@ fn make_rounds<L: Link>(
     Ok(Some(rounds))
 }
 
-/// Sets the links up and makes rounds over them, as `make_rounds` does.
-fn run<L: Link>(
-    task: &Task<'_>,
-    links: &mut [L],
-    states: &mut [LinkState],
-    coordinator: &mut CoordinatorMap,
-    most_rounds: u64,
-) -> Result<Option<u64>, AllocError>
-    requires states { length states.old ≡ length links.old }
-    requires few { length links.old < 2 ^ 32 }
-    requires bounds { coordinator.old.map.bounds ≡ task.now.bounds }
-    requires map { IsMap coordinator.old.map.bounds (length task.now.game) coordinator.old.map.measures }
-    requires rose { coordinator.old.rose ≡ true }
-    requires unset { All (λ s. s.restarts ≡ 0) states.old }
-    ensures honest { All L.is_honest links.old → All L.is_honest links.new }
-    ensures ends { IfOk result (Ends task.now.game (All L.is_honest links.old)
-        (TellReplies L.told task.now.bounds task.now.cut links.old) (length links.old) most_rounds coordinator.old.map coordinator.new.map) }
-{
-    let mut row = vec![in task.alloc(); 0; task.width() as usize]?;
-    let mut buffer = Vec::new(task.alloc());
-    prepare_all(links);
-    set_up_all(task, links, states, &mut buffer)?;
-    make_rounds(
-        task,
-        links,
-        states,
-        coordinator,
-        &mut buffer,
-        row.as_mut_slice(),
-        most_rounds,
-    )
-}
-
-/// Solves a task over links, from a map on. None where rounds are given up.
+/// Solves a task over links, from a map on: sets the links up, and makes rounds over them. None where rounds are given up.
 fn work<L: Link>(
     task: &Task<'_>,
     links: &mut [L],
@@ -142,10 +109,24 @@ fn work<L: Link>(
         (TellReplies L.told task.now.bounds task.now.cut links.old) (length links.old) from)) }
     ensures limited { IfOk result (λ o. IfNone o (most_rounds + 1 < 2 ^ 64)) }
 {
-    let mut coordinator = CoordinatorMap::new(task.alloc(), from)?;
-    let mut places = vec![in task.alloc(); UNSET; links.len()]?;
+    let alloc = task.alloc();
+    let mut coordinator = CoordinatorMap::new(alloc, from)?;
+    let mut places = vec![in alloc; UNSET; links.len()]?;
     let states = places.as_mut_slice();
-    let Some(rounds) = run(task, links, states, &mut coordinator, most_rounds)? else {
+    let mut row = vec![in alloc; 0; task.width() as usize]?;
+    let mut buffer = Vec::new(alloc);
+    prepare_all(links);
+    set_up_all(task, links, states, &mut buffer)?;
+    let made = make_rounds(
+        task,
+        links,
+        states,
+        &mut coordinator,
+        &mut buffer,
+        row.as_mut_slice(),
+        most_rounds,
+    )?;
+    let Some(rounds) = made else {
         return Ok(None);
     };
     Ok(Some(Solved {
@@ -180,16 +161,17 @@ fn zero_of(alloc: Global, game: &Game, cut: &Cut, links: usize) -> Result<Measur
 
 /// Solves a game over links: worker k + 1 of the cut is behind link k, and makes at most `budget` lifts in a turn.
 ///
-/// In a round each link in use is sent values and a Go; then the replies are read, and their values joined. Only where no value
-/// rose, each vertex that can be lifted is lifted here, from 0 up, and where none can be, the map is the answer. It is closed
-/// whatever the links answer; over honest links it is the least progress measure; and over links that tell their replies it is
-/// the least closed map that is at least every value in the replies that were taken, one of each link in each round while it had
-/// one left and had failed three times at most.
+/// In a round the coordinator sends values and a Go over each link in use, and then reads the replies and joins their
+/// values. If no value rose, it lifts each vertex that can be lifted itself, from 0 up. If none can be, the map is the
+/// answer. The map is closed whatever the links answer. Over honest links it is the least progress measure. Over links
+/// that tell their replies it is the least closed map that is at least every value in the replies that the coordinator
+/// took: in each round one reply of each link, as long as the link had one left and had failed at most three times.
 ///
-/// A link that fails is restarted and set up again, at most three times; then it is abandoned, and its part is lifted here.
+/// If a link fails, the coordinator restarts it and sets it up again, at most three times. Then it gives the link up,
+/// and lifts that part here.
 ///
-/// Faults: `CutMismatch` where the cut isn't over the game's vertices and as many workers as links, which then are as they
-/// were; `OutOfMemory`. Links that are honest stay so, whatever comes.
+/// Faults: `CutMismatch` if the cut doesn't have the game's vertices or its number of workers isn't that of the links,
+/// which then stay as they were; `OutOfMemory`. Honest links stay honest in every case.
 pub fn solve<L: Link>(
     alloc: Global,
     game: &Game,
@@ -216,8 +198,8 @@ pub fn solve<L: Link>(
     }
 }
 
-/// Solves a game as `solve` does, but gives rounds up where measures rose in more than `limit` rounds, and where no link is in use:
-/// then the answer is none, and the links may be used again. `u64::MAX` is no limit, and rounds are then never given up, also where no
+/// Solves a game as `solve` does, but gives up after more than `limit` rounds in which measures rose, and when no link
+/// is in use. Then the answer is None, and you may use the links again. With `u64::MAX` it never gives up, even if no
 /// link is in use.
 ///
 /// Faults: as for `solve`.

@@ -5,7 +5,7 @@ ghost use Rattle.std.specs.Bool.{OnTrue, OnFalse};
 ghost use Rattle.pg_measure.specs.Measures.{Fits, AtMost, IsBelow, Covers, CoversFront, owned, width_from};
 ghost use Rattle.pg_measure.specs.Mirrors.Rows.{measure_of, FrontAtMost, MissesFront, IsLeastCover};
 ghost use Rattle.pg_measure.specs.Views.{measure_in};
-ghost use Rattle.pg_map.specs.Lines.{AreWithin, line_at};
+ghost use Rattle.pg_map.specs.Lines.{AreWithin};
 ghost use Rattle.pg_map.specs.Mirrors.Tables.{IsBetter, IsBest};
 ghost use Rattle.pg_map.specs.Maps.{measure_at, IsMap, zero_map, update_map, MapAtMost, SomeOrAll, IsServedBy, IsServed, IsClosed, IsLifted, StaysUnder, CoversSuccessors, IsLeastClosedFrom, IsJoin};
 ghost use Rattle.pg_map.specs.Weights.{map_weight};
@@ -17,8 +17,8 @@ use pg_measure::{Bounds, Measure, View, row};
 use std::alloc::{AllocError, Global};
 use std::marker::Model;
 
-/// A measure of the bounds for each vertex. Contracts see the bounds and the list of the measures. After `zero` no call takes
-/// memory.
+/// A measure within the bounds for each vertex. Contracts see the bounds and the list of the measures. After `zero` no
+/// call takes memory.
 #[derive(Drop)]
 pub struct MeasureMap {
     bounds: Bounds,
@@ -37,8 +37,8 @@ impl Model for MeasureMap {
 }
 
 impl MeasureMap {
-    /// The map with zeros at each vertex. It takes all the memory that the map ever has, and is refused only for want
-    /// of it, also where the size of the rows can't be had.
+    /// The map with zeros at each vertex. This call takes all the memory that the map will ever need, and fails only if
+    /// memory runs out or the size of the rows overflows.
     pub fn zero(alloc: Global, vertices: u32, bounds: &Bounds) -> Result<MeasureMap, AllocError>
         ensures bounds { IfOk result (λ m. m.bounds ≡ bounds.now) }
         ensures zeros { IfOk result (λ m. m.measures ≡ zero_map bounds.now vertices) }
@@ -48,7 +48,7 @@ impl MeasureMap {
         Ok(MeasureMap { bounds, rows })
     }
 
-    /// How many vertices the map has.
+    /// The number of vertices.
     #[inline(always)]
     pub fn len(&self) -> u32
         ensures value { result ≡ length self.now.measures }
@@ -80,7 +80,7 @@ impl MeasureMap {
         }
     }
 
-    /// Sets a measure with room for the map's bounds to that of a vertex.
+    /// Copies the measure of a vertex into `measure`, which must have room for the map's bounds.
     pub fn copy_to(&self, v: Vertex, measure: &mut Measure)
         requires v { v < length self.now.measures }
         requires room { measure.old.width ≡ length self.now.bounds }
@@ -89,7 +89,7 @@ impl MeasureMap {
         measure.set(self.get(v));
     }
 
-    /// Raises the measure of a vertex to at least `m`: the join with one update. True exactly if it rose.
+    /// Raises the measure of a vertex to at least `m`: the join with one update. True if and only if it rose.
     #[inline(always)]
     pub fn raise(&mut self, v: Vertex, m: View) -> bool
         requires v { v < length self.old.measures }
@@ -119,7 +119,7 @@ impl MeasureMap {
         true
     }
 
-    /// Whether `v` is served by `w`: its measure covers that of `w` at the priority of `v`.
+    /// Whether `w` serves `v`: the measure of `v` covers that of `w` at the priority of `v`.
     #[inline(always)]
     pub fn serves<G: Lines>(&self, lines: &G, v: Vertex, w: Vertex) -> bool
         requires held { IsSome (G.line lines.now v) }
@@ -142,45 +142,8 @@ impl MeasureMap {
         self.covers(v.0 as usize, w.0 as usize, front, priority % 2 == 1)
     }
 
-    /// Whether the components of `a` of priorities at least this one are at most those of `b`; where both are at most each
-    /// other, either answer. Top is above every list.
-    #[inline(always)]
-    pub fn is_front_below(&self, priority: u32, a: Vertex, b: Vertex) -> bool
-        requires a { a < length self.now.measures }
-        requires b { b < length self.now.measures }
-        ensures { MatchBool result (FrontAtMost (width_from self.now.bounds priority)
-            (measure_at self.now.measures a) (measure_at self.now.measures b))
-            (FrontAtMost (width_from self.now.bounds priority)
-            (measure_at self.now.measures b) (measure_at self.now.measures a)) }
-    {
-        let front = self.bounds().width_from(priority);
-        self.is_less(a.0 as usize, b.0 as usize, front)
-    }
-
-    /// Lifts a vertex of this priority over its best successor, which doesn't serve it: the lift of the vertex, with no
-    /// look at its line. The lines are what the contract speaks of.
-    #[inline(always)]
-    pub fn lift_over<G: Lines>(&mut self, lines: &G, priority: u32, v: Vertex, w: Vertex)
-        requires held { IsSome (G.line lines.now v) }
-        requires priority { priority ≡ (line_at (G.line lines.now) v).priority }
-        requires within { AreWithin (length self.old.measures) (G.line lines.now) }
-        requires best { IsBest (line_at (G.line lines.now) v).owner
-            (width_from self.old.bounds (line_at (G.line lines.now) v).priority) self.old.measures
-            (line_at (G.line lines.now) v).successors w }
-        requires unserved { ¬ (IsServedBy self.old.bounds (G.line lines.now) self.old.measures v w) }
-        ensures bounds { self.new.bounds ≡ self.old.bounds }
-        ensures map { IsMap self.old.bounds (length self.old.measures) self.new.measures }
-        ensures lifted { IsLifted self.old.bounds (G.line lines.now) self.old.measures self.new.measures v }
-        ensures served { Covers self.old.bounds (line_at (G.line lines.now) v).priority
-            (measure_at self.new.measures v) (measure_at self.old.measures w) }
-        ensures under { StaysUnder self.old.bounds (G.line lines.now) self.old.measures self.new.measures }
-        ensures weight { map_weight self.old.bounds self.new.measures < map_weight self.old.bounds self.old.measures }
-    {
-        let front = self.bounds().width_from(priority);
-        self.step(w.0 as usize, v.0 as usize, front, priority % 2 == 1);
-    }
-
-    /// Lifts a vertex: its measure becomes the least that serves it, if that is above it. True exactly if it rose.
+    /// Lifts a vertex: its measure becomes the least one that serves it, if that is above its measure. True if and only
+    /// if it rose.
     pub fn lift<G: Lines>(&mut self, lines: &G, v: Vertex) -> bool
         requires held { IsSome (G.line lines.now v) }
         requires within { AreWithin (length self.old.measures) (G.line lines.now) }
@@ -209,7 +172,7 @@ impl MeasureMap {
         true
     }
 
-    /// The least vertex that can be lifted; none exactly if the map is closed.
+    /// The least vertex that can be lifted; None if and only if the map is closed.
     pub fn first_liftable<G: Lines>(&self, lines: &G) -> Option<Vertex>
         requires { AreWithin (length self.now.measures) (G.line lines.now) }
         ensures fits { All (Fits self.now.bounds) self.now.measures }
@@ -228,8 +191,8 @@ impl MeasureMap {
         None
     }
 
-    /// Lifts each vertex that can be lifted, from 0 up. True exactly if one rose; else the map is closed. Each measure
-    /// then covers what some or all of the vertex's successors had before.
+    /// Lifts each vertex that can be lifted, from 0 up. True if and only if one rose; otherwise the map is closed.
+    /// Afterwards each measure covers what some or all of the vertex's successors had before.
     pub fn lift_each<G: Lines>(&mut self, lines: &G) -> bool
         requires { AreWithin (length self.old.measures) (G.line lines.now) }
         ensures bounds { self.new.bounds ≡ self.old.bounds }
@@ -491,8 +454,8 @@ impl MeasureMap {
     }
 }
 
-/// Lifts until nothing can be lifted, in passes over all vertices. The map becomes the least closed map that is at
-/// least what it was: from zeros, the least progress measure.
+/// Lifts in passes over all vertices until none can be lifted. The map becomes the least closed map that is at least
+/// what it was. From zeros that is the least progress measure.
 pub fn lift_to_end<G: Lines>(map: &mut MeasureMap, lines: &G)
     requires { AreWithin (length map.old.measures) (G.line lines.now) }
     ensures bounds { map.new.bounds ≡ map.old.bounds }

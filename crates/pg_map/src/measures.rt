@@ -1,4 +1,4 @@
-//! What is asked of a map of measures, however it keeps them.
+//! An interface to maps of measures, however they store them.
 
 ghost use Rattle.std.specs.Prelude.{◌≡◌, ◌↔◌, ℕ, ◌<◌, None, length, Contains, IsTrue, IsSome, IfSome, IfNone};
 ghost use Rattle.std.specs.List.Sorted.{IsStrictlyIncreasing};
@@ -10,7 +10,7 @@ use crate::{Lines, MeasureMap};
 use pg_arena::Vertex;
 use pg_measure::{Bounds, View};
 
-/// A map from vertices to measures that can be asked, whether it keeps rows or something that tells them.
+/// A map from vertices to measures that only answers questions; it may store rows or compute them.
 pub trait Measures {
     ghost map: { Self → MapValue };
 

@@ -29,7 +29,7 @@ impl Model for RowTable {
 }
 
 impl RowTable {
-    /// So many rows of zeros. Refused only for want of memory, also where the size of the list can't be had.
+    /// So many rows of zeros. It fails only if memory runs out or the size of the list overflows.
     pub(crate) fn zeros(alloc: Global, width: usize, count: usize) -> Result<RowTable, AllocError>
         requires { 0 < width }
         ensures width { IfOk result (λ r. r.width ≡ width) }

@@ -5,7 +5,9 @@ mod backing;
 mod certifying;
 mod claim;
 pub mod laws;
+mod proposal;
 
 pub use certifying::{certifies, is_never_above};
 pub use claim::{Claim, Claims};
 pub use pg_check_order::Span;
+pub use proposal::{Proposal, Proposals};

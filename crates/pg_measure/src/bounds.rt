@@ -15,7 +15,8 @@ use std::marker::Model;
 /// For priorities below this one it is kept how many bounds are of a priority at least that.
 const AT_HAND: usize = 1024;
 
-/// The odd priorities that occur, falling, each with the number of its vertices. Contracts see the list of these pairs.
+/// The odd priorities of a game in falling order, each with the number of its vertices. Contracts see the list of these
+/// pairs.
 #[derive(Drop)]
 pub struct Bounds {
     pairs: Vec<(u32, u32)>,
@@ -34,7 +35,7 @@ impl Model for Bounds {
 }
 
 impl Bounds {
-    /// The bounds of a game: exactly its odd priorities, each with the number of its vertices.
+    /// The bounds of a game: its odd priorities, each with the number of its vertices. Fails only if memory runs out.
     pub fn of(alloc: Global, game: &Game) -> Result<Bounds, AllocError>
         ensures { IfOk result (λ b. IsBoundsOf game.now b) }
     {
@@ -42,8 +43,8 @@ impl Bounds {
         Bounds::of_counts(alloc, &counts)
     }
 
-    /// The bounds of the dual of a game, which isn't made: no vertex of a dual has the priority 0, and each other priority
-    /// has the vertices that have the one below it in the game.
+    /// The bounds of the dual of a game, without making the dual. No vertex of a dual has priority 0, and each other
+    /// priority has the vertices that have the priority below it in the game. Fails only if memory runs out.
     pub fn of_dual(alloc: Global, game: &Game) -> Result<Bounds, AllocError>
         ensures { IfOk result (λ b. IsBoundsOf (dual game.now) b) }
     {
@@ -70,8 +71,8 @@ impl Bounds {
         Ok(Bounds { pairs, widths })
     }
 
-    /// The bounds with these pairs of a priority and how many vertices have it. Priorities are odd and fall,
-    /// and each has a vertex.
+    /// The bounds with these pairs of a priority and its number of vertices. The priorities must be odd and fall, and
+    /// each must have a vertex. Fails only if memory runs out.
     pub fn from_pairs(alloc: Global, pairs: &[(u32, u32)]) -> Result<Bounds, AllocError>
         requires { AreBounds pairs.now }
         ensures { IfOk result (λ b. b ≡ pairs.now) }
@@ -85,7 +86,7 @@ impl Bounds {
         })
     }
 
-    /// The pairs of a priority and how many vertices have it: priorities are odd and fall.
+    /// The pairs of a priority and its number of vertices; the priorities are odd and fall.
     pub fn pairs(&self) -> &[(u32, u32)]
         ensures value { result.now ≡ self.now }
         ensures bounds { AreBounds self.now }
@@ -93,7 +94,7 @@ impl Bounds {
         self.pairs.as_slice()
     }
 
-    /// How many components are of a priority at least `p`.
+    /// The number of components for priorities at least `p`.
     pub fn width_from(&self, p: u32) -> usize
         ensures value { result ≡ width_from self.now p }
         ensures within { result ≤ length self.now }

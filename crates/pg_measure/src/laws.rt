@@ -1,4 +1,4 @@
-//! What is proved of measures: each function's contract is a law, and its body does nothing.
+//! Laws about measures. Each function states one in its contract, and does nothing.
 
 ghost use Rattle.pg_measure.specs.Laws.{OrderIsTotal, ComparingTellsOrder, ZerosAreLeast, ComponentsAreFirst, OneLeastStep, HasBounds, OneListOfBounds, BoundsAreFew};
 
@@ -7,7 +7,7 @@ pub fn order_is_total()
     ensures { OrderIsTotal }
 {}
 
-/// Comparing two measures, by `cmp` and by `<` and the like, tells how they are ordered.
+/// `cmp`, `<` and the other comparisons of two measures agree with their order.
 pub fn comparing_tells_order()
     ensures { ComparingTellsOrder }
 {}
@@ -17,12 +17,12 @@ pub fn zeros_are_least()
     ensures { ZerosAreLeast }
 {}
 
-/// The components of priorities at least `p` are the first ones, since priorities fall.
+/// The components for priorities at least `p` come first, since priorities fall.
 pub fn components_are_first()
     ensures { ComponentsAreFirst }
 {}
 
-/// Of the measures that cover one there is one least.
+/// Among the measures that cover a given one there is exactly one least.
 pub fn one_least_step()
     ensures { OneLeastStep }
 {}
@@ -32,12 +32,12 @@ pub fn has_bounds()
     ensures { HasBounds }
 {}
 
-/// A game has one list of bounds.
+/// A game has only one list of bounds.
 pub fn one_list_of_bounds()
     ensures { OneListOfBounds }
 {}
 
-/// A game whose priorities are at most 65,536 has at most 32,768 bounds, of priorities at most 65,535.
+/// A game whose priorities are at most 65,536 has at most 32,768 bounds, for priorities of at most 65,535.
 pub fn bounds_are_few()
     ensures { BoundsAreFew }
 {}

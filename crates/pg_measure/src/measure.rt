@@ -14,8 +14,8 @@ use std::marker::Model;
 /// A row of so many numbers, the mark among them, stands in the measure itself, and a longer one in memory of its own.
 const INLINE: usize = 4;
 
-/// Top, or a list of components. Contracts see the measure as `value`, and as `width` how many components it has room
-/// for, also at top.
+/// Top, or a list of components. Contracts see the measure as `value`, and as `width` the number of components that it
+/// has room for, even if it is top.
 #[derive(Drop)]
 pub struct Measure {
     row: SmallVec<u32, INLINE>,
@@ -44,7 +44,7 @@ impl Model for Measure {
 }
 
 impl Measure {
-    /// The least measure of the bounds: a zero for each.
+    /// The least measure within the bounds, a zero for each of them. Fails only if memory runs out.
     pub fn zero(alloc: Global, bounds: &Bounds) -> Result<Measure, AllocError>
         ensures { IfOk result (λ m. m ≡ owned (zeros bounds.now) (length bounds.now)) }
     {
@@ -52,7 +52,7 @@ impl Measure {
         Ok(Measure { row })
     }
 
-    /// Top, with room for a component for each of the bounds.
+    /// Top, with room for a component for each of the bounds. Fails only if memory runs out.
     pub fn top(alloc: Global, bounds: &Bounds) -> Result<Measure, AllocError>
         ensures { IfOk result (λ m. m ≡ owned None (length bounds.now)) }
     {
@@ -60,7 +60,7 @@ impl Measure {
         Ok(Measure { row })
     }
 
-    /// The list of these components.
+    /// The measure that is this list. Fails only if memory runs out.
     pub fn from_list(alloc: Global, list: &[u32]) -> Result<Measure, AllocError>
         ensures { IfOk result (λ m. m ≡ owned (Some list.now) (length list.now)) }
     {
@@ -70,7 +70,7 @@ impl Measure {
         Ok(Measure { row })
     }
 
-    /// The components, or none for top.
+    /// The components, or None for top.
     pub fn list(&self) -> Option<&[u32]>
         ensures value { option_map (λ r. r.now) result ≡ self.now.value }
         ensures width { IsOwned self.now }
@@ -79,7 +79,7 @@ impl Measure {
         if row[0] != 0 { None } else { Some(&row[1..]) }
     }
 
-    /// The measure, lent.
+    /// The measure, borrowed.
     pub fn view(&self) -> View<'_>
         ensures value { measure_in result ≡ self.now.value }
         ensures width { IsOwned self.now }
@@ -90,7 +90,7 @@ impl Measure {
         }
     }
 
-    /// Sets this measure to one that is lent. A list has to take up the room.
+    /// Copies a borrowed measure into this one. A list must have exactly as many components as there is room for.
     pub fn set(&mut self, m: View)
         requires { (xs : List ℕ) → measure_in m ≡ Some xs → length xs ≡ self.old.width }
         ensures { self.new ≡ owned (measure_in m.entry) self.old.width }
@@ -105,7 +105,7 @@ impl Measure {
         }
     }
 
-    /// Whether this is a measure of the bounds: top, or a component for each of them that isn't above it.
+    /// Whether this measure is within the bounds: top, or a component for each bound, and none above its bound.
     pub fn fits(&self, bounds: &Bounds) -> bool
         ensures { IsTrue result ↔ Fits bounds.now self.now.value }
     {
@@ -115,7 +115,7 @@ impl Measure {
         }
     }
 
-    /// How the components of priorities at least `p` compare in lexicographic order. Top is above every list.
+    /// Compares the components for priorities at least `p` in lexicographic order. Top is above every list.
     pub fn order_from(&self, other: &Measure, p: u32, bounds: &Bounds) -> Ordering
         ensures { MatchOrdering result (IsBelow (measure_from bounds.now p self.now.value)
             (measure_from bounds.now p other.now.value))
@@ -131,7 +131,7 @@ impl Measure {
         }
     }
 
-    /// The least measure of the bounds that covers this one at `p`.
+    /// The least measure within the bounds that covers this one at `p`. Fails only if memory runs out.
     pub fn least_step(&self, p: u32, bounds: &Bounds) -> Result<Measure, AllocError>
         requires { Fits bounds.now self.now.value }
         ensures least { IfOk result (λ m. IsLeastStep bounds.now p self.now.value m.value) }

@@ -1,6 +1,6 @@
-//! Measures that are lent.
+//! Borrowed measures.
 
-/// A measure, lent: top, or a list of components.
+/// A borrowed measure: top, or a list of components.
 #[derive(Clone, Copy, Debug, PartialEq, Eq)]
 pub enum View<'a> {
     Top,

@@ -16,4 +16,4 @@ mod region;
 mod search;
 mod ways;
 
-pub use proposal::{Proposal, Proposals, propose, propose_measure};
+pub use proposal::{propose, propose_measure};

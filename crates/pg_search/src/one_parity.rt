@@ -1,9 +1,8 @@
 //! Games whose priorities all have one parity. That player wins everywhere, and both maps are known at once: zeros of the winner, and
 //! top of the loser.
 
-use crate::proposal::{Proposal, Proposals};
 use pg_arena::{Game, Vertex};
-use pg_map_claims::{Claim, Claims, Span};
+use pg_map_claims::{Claim, Claims, Proposal, Proposals, Span};
 use pg_search_rows::{count, put};
 use std::alloc::{AllocError, Global};
 

@@ -1,32 +1,14 @@
-//! What is proposed: a ladder, ranks, and claims.
+//! Proposals of least maps: a ladder, ranks, and claims.
 
 use crate::ladder::Ladder;
 use crate::one_parity::propose_at_once;
 use crate::region::Region;
 use crate::search::find;
 use pg_arena::{Game, Player, Vertex};
-use pg_map_claims::{Claim, Claims, Span};
+use pg_map_claims::{Claim, Claims, Proposal, Proposals, Span};
 use pg_search_rows::{NONE, RowClaim, Side, TOP, ZEROS, at, count, put};
 use pg_search_winners::{Graph, find_winners};
 use std::alloc::{AllocError, Global};
-
-/// A map of ranks in a ladder, which is to be the least one, and claims that are to show it. Nothing is promised of it: who wants to
-/// believe it has it certified.
-#[derive(Drop)]
-pub struct Proposal {
-    /// The priority of each step of the ladder.
-    pub steps: Vec<u32>,
-    pub ranks: Vec<u32>,
-    /// For a vertex of even priority the first of the greatest steps of the block that begins at its row.
-    pub hints: Vec<u32>,
-    pub claims: Claims,
-}
-
-#[derive(Drop)]
-pub struct Proposals {
-    pub of_game: Proposal,
-    pub of_dual: Proposal,
-}
 
 /// How often lowering and ways may look at each vertex and edge, and how often at few.
 const LOOKS: u64 = 64;

@@ -1,11 +1,12 @@
-//! Maps that were found.
+//! The maps that a solver finds.
 
 use pg_arena::Vertex;
 use pg_map::{Lines, MeasureMap, Measures, View};
 use pg_map_ranks::RankMap;
 use pg_measure::Bounds;
 
-/// A map that was found: by ranks of a ladder, which take a few numbers for each vertex, or by a row for each vertex.
+/// A map that the solver found. It is stored as ranks in a ladder, a few numbers for each vertex, or as a row of
+/// numbers for each vertex.
 #[derive(Drop)]
 pub enum Found {
     Ranks(RankMap),

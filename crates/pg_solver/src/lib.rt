@@ -1,5 +1,5 @@
-//! Games that are solved in one piece: a search proposes maps, one look at each edge tells whether they are the least progress
-//! measures, and where it doesn't the games are lifted to the end.
+//! Solves games in one piece. A search proposes maps, and one look at each edge decides whether they are the least
+//! progress measures. If they aren't, the games are lifted to the end.
 #![tactic(auto)]
 
 mod found;
@@ -9,4 +9,5 @@ mod proposed;
 mod solver;
 
 pub use found::Found;
-pub use solver::{Maps, measure, measure_by, solve, solve_by};
+pub use pg_map_claims::{Proposal, Proposals};
+pub use solver::{Maps, measure, solve};

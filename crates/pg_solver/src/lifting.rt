@@ -9,7 +9,7 @@ use pg_map::{Lines, MeasureMap};
 use pg_map_lift::Lifter;
 use std::alloc::{AllocError, Global};
 
-/// The least progress measure of some lines, by lifting from zeros. It is refused for want of memory only, also where there are
+/// The least progress measure of some lines, by lifting from zeros. It fails only if memory runs out, also if there are
 /// 2^32 edges or more.
 pub(crate) fn lifted<G: Lines + Drop>(
     alloc: Global,

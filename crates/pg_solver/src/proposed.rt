@@ -12,10 +12,9 @@ use crate::known::known_from;
 use crate::solver::Maps;
 use pg_arena::Game;
 use pg_map::{Dual, Lines, Measures};
-use pg_map_claims::{Claims, certifies, is_never_above};
+use pg_map_claims::{Claims, Proposal, Proposals, certifies, is_never_above};
 use pg_map_ranks::{Ladder, RankMap};
 use pg_measure::Bounds;
-use pg_search::{Proposal, Proposals};
 use std::alloc::{AllocError, Global};
 
 /// The map of a proposal, and what claims it; none where its steps are no ladder of the bounds, or a vertex has no rank.

@@ -12,9 +12,9 @@ use crate::lifting::lifted;
 use crate::proposed::{both_certified, certified};
 use pg_arena::Game;
 use pg_map::{Dual, MeasureMap};
+use pg_map_claims::{Proposal, Proposals};
 use pg_map_lift::Lent;
 use pg_measure::Bounds;
-use pg_search::{Proposal, Proposals, propose, propose_measure};
 use std::alloc::{AllocError, Global};
 
 /// A map of a game and one of its dual.
@@ -27,7 +27,7 @@ pub struct Maps<M: Drop> {
 /// How many numbers a map may have that is lifted to its end: vertices times odd priorities. They take 1 GB.
 const MOST_NUMBERS: usize = 1 << 28;
 
-/// Refuses a map that has more numbers, for want of memory.
+/// Fails for a map with more numbers, as if memory ran out.
 fn see_if_it_fits(vertices: usize, bounds: &Bounds) -> Result<(), AllocError> {
     if vertices.saturating_mul(bounds.pairs().len()) > MOST_NUMBERS {
         return Err(AllocError);
@@ -61,14 +61,10 @@ fn lift_dual(alloc: Global, game: &Game) -> Result<MeasureMap, AllocError>
     lifted(alloc, Dual::of(game), zero)
 }
 
-/// The least progress measure of a game: what is proposed, if its claims show it, and else by lifting. Whatever is proposed, the answer
-/// is the same map. It is refused for want of memory only, and so is lifting where the map has more than 2^28 numbers: vertices times
-/// odd priorities.
-pub fn measure_by(
-    alloc: Global,
-    game: &Game,
-    proposal: Option<Proposal>,
-) -> Result<Found, AllocError>
+/// Returns the least progress measure of a game: the proposed map if its claims hold, and otherwise the map that
+/// lifting finds. The answer is the same map either way. It fails only if memory runs out; lifting also counts as
+/// running out of memory if the map has more than 2^28 numbers, vertices times odd priorities.
+pub fn measure(alloc: Global, game: &Game, proposal: Option<Proposal>) -> Result<Found, AllocError>
     ensures bounds { IfOk result (λ m. IsBoundsOf game.now (found_map m).bounds) }
     ensures least { IfOk result (λ m. IsLeastProgressMeasure (found_map m).bounds (length game.now)
         (game_line game.now) (found_map m).measures) }
@@ -81,8 +77,8 @@ pub fn measure_by(
     Ok(Found::Rows(lift_game(alloc, game)?))
 }
 
-/// The same of a game and of its dual.
-pub fn solve_by(
+/// The same for a game and its dual.
+pub fn solve(
     alloc: Global,
     game: &Game,
     proposals: Option<Proposals>,
@@ -106,27 +102,4 @@ pub fn solve_by(
         of_game: Found::Rows(lift_game(alloc, game)?),
         of_dual: Found::Rows(lift_dual(alloc, game)?),
     })
-}
-
-/// The least progress measure of a game. It is refused for want of memory only.
-pub fn measure(alloc: Global, game: &Game) -> Result<Found, AllocError>
-    ensures bounds { IfOk result (λ m. IsBoundsOf game.now (found_map m).bounds) }
-    ensures least { IfOk result (λ m. IsLeastProgressMeasure (found_map m).bounds (length game.now)
-        (game_line game.now) (found_map m).measures) }
-{
-    let proposal = propose_measure(alloc, game)?;
-    measure_by(alloc, game, proposal)
-}
-
-/// The least progress measures of a game and of its dual. It is refused for want of memory only.
-pub fn solve(alloc: Global, game: &Game) -> Result<Maps<Found>, AllocError>
-    ensures bounds { IfOk result (λ m. IsBoundsOf game.now (found_map m.of_game).bounds) }
-    ensures least { IfOk result (λ m. IsLeastProgressMeasure (found_map m.of_game).bounds (length game.now)
-        (game_line game.now) (found_map m.of_game).measures) }
-    ensures dual_bounds { IfOk result (λ m. IsBoundsOf (dual game.now) (found_map m.of_dual).bounds) }
-    ensures dual_least { IfOk result (λ m. IsLeastProgressMeasure (found_map m.of_dual).bounds (length (dual game.now))
-        (game_line (dual game.now)) (found_map m.of_dual).measures) }
-{
-    let proposals = propose(alloc, game)?;
-    solve_by(alloc, game, proposals)
 }

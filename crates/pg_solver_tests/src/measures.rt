@@ -5,8 +5,8 @@
 
 use pg_arena::{Game, GameBuilder, Player, Vertex};
 use pg_map::{Measures, View};
-use pg_search::{Proposal, Proposals, propose, propose_measure};
-use pg_solver::{Found, measure_by, solve_by};
+use pg_search::{propose, propose_measure};
+use pg_solver::{Found, Proposal, Proposals, measure, solve};
 use std::alloc::Global;
 use std::test::Fail;
 
@@ -57,7 +57,7 @@ fn is_lifted(
     proposal: Option<Proposal>,
     measures: &[View],
 ) -> Result<bool, Fail> {
-    let map = measure_by(alloc, game, proposal)?;
+    let map = measure(alloc, game, proposal)?;
     Ok(!is_certified(&map) && has_all(alloc, &map, measures)?)
 }
 
@@ -69,7 +69,7 @@ fn are_lifted(
     of_game: &[View],
     of_dual: &[View],
 ) -> Result<bool, Fail> {
-    let maps = solve_by(alloc, game, proposals)?;
+    let maps = solve(alloc, game, proposals)?;
     Ok(
         !is_certified(&maps.of_game)
             && !is_certified(&maps.of_dual)

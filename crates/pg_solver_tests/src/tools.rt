@@ -7,10 +7,10 @@ ghost use Rattle.pg_map.specs.Lines.{AreWithin, game_line};
 use pg_arena::{ArenaFault, Game, GameBuilder, MAX_PRIORITY, Player, Vertex, dual};
 use pg_map::Measures;
 use pg_map_claims::laws::zeros_are_known;
-use pg_map_claims::{Claim, Claims, Span, certifies};
+use pg_map_claims::{Claim, Claims, Proposal, Span, certifies};
 use pg_map_ranks::{Ladder, RankMap};
 use pg_measure::Bounds;
-use pg_search::{Proposal, propose, propose_measure};
+use pg_search::{propose, propose_measure};
 use std::alloc::{AllocError, Global};
 use std::test::Fail;
 

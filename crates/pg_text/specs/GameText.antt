@@ -82,7 +82,7 @@ pub record HasNoGame (bytes : List ℕ) (fault : ArenaFault) : Type 0 where
   pub limits : Accepts [] lines
   pub refused : FinishFails (map counted lines) fault
 
--- Why the bytes are refused, want of memory aside. Which of Syntax and NumberTooLarge comes, and at which offset, isn't said.
+-- Why the bytes are refused, apart from running out of memory. Which of Syntax and NumberTooLarge comes, and at which offset, isn't said.
 abbrev pub Refuses : List ℕ → TextFault → Type 0
 Refuses bytes (Syntax offset) = IsNoText bytes
 Refuses bytes (NumberTooLarge offset) = IsNoText bytes

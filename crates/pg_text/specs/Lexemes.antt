@@ -74,7 +74,7 @@ abbrev pub fault_at : List ℕ → TokenFault
 fault_at [] = Syntax 0
 fault_at (b ∷ bytes) = if is_digit b then NumberTooLarge (length (b ∷ bytes)) else Syntax (length (b ∷ bytes))
 
--- why no token begins; the fault is told at the token's first byte, by how many bytes are left from there
+-- why no token begins; the fault is at the token's first byte, and says how many bytes are left from there
 abbrev pub token_fault : List ℕ → TokenFault
 token_fault bytes = fault_at (after_space bytes)
 

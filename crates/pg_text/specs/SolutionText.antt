@@ -173,7 +173,7 @@ pub record IsNoText (bytes : List ℕ) (game : List GameVertex) : Type 0 where
   pub new : (n : ℕ) → StartsLine here n → has_line before n ≡ false
   pub no_unfit : (n : ℕ) → ¬ BeginsUnfit game here n
 
--- Why the bytes are refused, want of memory aside. At which offset isn't said.
+-- Why the bytes are refused, apart from running out of memory. At which offset isn't said.
 abbrev pub RefusesSolution : List ℕ → List GameVertex → TextFault → Type 0
 RefusesSolution bytes game (Syntax offset) = IsSecond bytes game ⊎ IsNoText bytes game
 RefusesSolution bytes game (NumberTooLarge offset) = IsNoText bytes game

@@ -1,8 +1,8 @@
-//! What a solution says of one vertex.
+//! The answer of a solution for one vertex.
 
 use pg_arena::{Player, Vertex};
 
-/// Who wins at a vertex, and the successor that the winner chooses there, where one is named.
+/// The winner of a vertex, and the successor that the winner chooses there, if the solution names one.
 #[derive(Clone, Copy, Debug, PartialEq, Eq)]
 pub struct Answer {
     pub winner: Player,

@@ -11,23 +11,26 @@ use std::alloc::AllocError;
 use std::error::Error;
 use std::{fmt, io};
 
-/// Why a text is refused or not written. Offsets count bytes from 0 and name the first byte of the token at fault;
-/// at the end of the text they are its length. The other numbers are identifiers.
+/// Why a text is refused or not written. Offsets count bytes from 0 and point to the first byte of the token at fault;
+/// an offset at the end of the text is the text's length. The other numbers are identifiers.
 #[derive(Clone, Copy, Debug, PartialEq, Eq)]
 pub enum TextFault {
-    /// A growth was refused.
+    /// Memory ran out.
     OutOfMemory,
-    /// No token begins at this offset, or the string there has no second quote, or another token has to stand there.
+    /// No token begins at this offset, or a string begins there and has no second quote, or the token there isn't one
+    /// that may stand there.
     Syntax(usize),
     /// The number at this offset is over 4,294,967,295.
     NumberTooLarge(usize),
-    /// The lines make no game; never `OutOfMemory`.
+    /// The lines make no game, for this reason, which is never `OutOfMemory`.
     Arena(ArenaFault),
-    /// The line of a solution with this identifier names no vertex of the game, or a strategy that is no successor.
+    /// The solution has a line with this identifier, and no vertex of the game has it, or the strategy in the line is
+    /// no successor of the vertex.
     NotOfGame(u32),
-    /// The solution has no line for the vertex with this identifier, or no strategy where the winner owns it.
+    /// The solution has no line for the vertex with this identifier, or its winner owns it and the line has no
+    /// strategy.
     Missing(u32),
-    /// The writer failed. Nothing is known of how much went out.
+    /// The writer failed. It may have written part of the text.
     Write,
 }
 

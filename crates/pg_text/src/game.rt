@@ -1,4 +1,4 @@
-//! Games from text.
+//! Reading games.
 
 ghost use Rattle.std.specs.Prelude.{◌≡◌, ◌≢◌, List, IfOk, IfErr, MatchResult};
 ghost use Rattle.pg_arena.specs.Games.{GameVertex, HasPrioritiesUpTo};
@@ -38,15 +38,17 @@ fn builder_of(alloc: Global, bytes: &[u8]) -> Result<GameBuilder, TextFault>
     }
 }
 
-/// The game that the bytes spell in the PGSolver format: perhaps `parity N;`, perhaps `start N;`, and then lines of
-/// an identifier, a priority, an owner (0 is Even, 1 is Odd), successors with commas between, perhaps a name in
-/// quotes, and a `;`. The numbers of the header and of `start` are read and not used. Identifiers needn't be
-/// contiguous or in order, a successor may be defined later, and a repeated successor counts once.
+/// Reads a game in PGSolver's format: optionally `parity N;`, optionally `start N;`, and then lines. A line has an
+/// identifier, a priority, an owner (0 is Even, 1 is Odd), successors separated by commas, optionally a name in quotes,
+/// and a `;`. The numbers in the header and in `start` have no effect. Identifiers need not be contiguous or in order,
+/// a line may name a successor that a later line defines, and a repeated successor counts once.
 ///
-/// Refused are, from left to right: by `Syntax` or `NumberTooLarge` bytes of which lines that keep the limits are the front, and
-/// neither a line nor the end stands behind these; with the `;` of a line by `Arena` with the fault of `GameBuilder::add`; at the end
-/// by `Arena` with the fault of `GameBuilder::finish`. Which of the first two comes, and the offset that it names, are tested and in
-/// no clause: that of the first token that may not stand where it stands, `NumberTooLarge` where it is a number that is too large.
+/// It reads from left to right and returns the first of these faults. `Syntax` or `NumberTooLarge`: the bytes begin
+/// with lines that keep the limits, and neither a line nor the end of the text comes after those. `Arena`, at the `;`
+/// of a line: `GameBuilder::add` refuses the line. `Arena`, at the end: `GameBuilder::finish` refuses the game. No
+/// clause says which of the first two it is, or with which offset; tests do: the fault is at the first token that can't
+/// stand where it stands, and it is `NumberTooLarge` if that token is a number over its limit. `OutOfMemory` can come
+/// at any point.
 pub fn read_game(alloc: Global, bytes: &[u8]) -> Result<Game, TextFault>
     ensures found { IfOk result (IsGameText bytes.now) }
     // Bytes that spell a game are read, unless memory runs out, and they spell no other.

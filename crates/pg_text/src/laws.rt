@@ -1,39 +1,39 @@
-//! Laws of the definitions: functions that do nothing, whose contracts state them.
+//! Laws that follow from the definitions. Each function states one in its contract, and does nothing.
 
 ghost use Rattle.pg_text.specs.Limits.{AcceptsWithinLimits, NamesSuccessors};
 ghost use Rattle.pg_text.specs.OneSpelling.{SpellsOneGame, SpellsOneSolution};
 ghost use Rattle.pg_text.specs.ReadBack.{GameReadsBack};
 ghost use Rattle.pg_text.specs.SolutionReadBack.{SolutionReadsBack};
 
-/// The text of a game within the limits on vertices, edges and identifiers, whose priorities are at most 65,535 and
-/// whose names hold no quote, spells that game and no other.
+/// If a game keeps the limits on vertices, edges and identifiers, its priorities are at most 65,535 and its names
+/// contain no quote, then its text spells that game and no other.
 pub fn game_reads_back()
     ensures { GameReadsBack }
 {}
 
-/// The text of a solution, for a game whose identifiers are within their limit, spells its winners and its choices on
-/// vertices that the winner owns, and no others.
+/// If the identifiers of a game keep their limit, the text of a solution of it spells the solution's winners, and its
+/// choices at the vertices that the winners own, and nothing else.
 pub fn solution_reads_back()
     ensures { SolutionReadsBack }
 {}
 
-/// One text spells one game at most.
+/// A text spells at most one game.
 pub fn one_game()
     ensures { SpellsOneGame }
 {}
 
-/// For one game one text spells one solution at most.
+/// For a given game, a text spells at most one solution.
 pub fn one_solution()
     ensures { SpellsOneSolution }
 {}
 
-/// The lines of a text are accepted one after another exactly if no two have one identifier, each has a priority of at
-/// most 65,535 and a successor, and there are at most 1,048,576 lines and 8,388,608 edges.
+/// The builder accepts the lines of a text one after another if and only if no two have the same identifier, each has a
+/// successor and a priority of at most 65,535, and there are at most 1,048,576 lines and 8,388,608 edges.
 pub fn accepts_within_limits()
     ensures { AcceptsWithinLimits }
 {}
 
-/// In a text of a game each successor is the identifier of a line.
+/// In the text of a game, each successor is the identifier of some line.
 pub fn names_successors()
     ensures { NamesSuccessors }
 {}

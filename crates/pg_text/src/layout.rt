@@ -1,4 +1,4 @@
-//! Games to text.
+//! Writing games.
 
 ghost use Rattle.std.specs.Prelude.{◌≡◌, ◌<◌, ◌++◌, length, decimal, OnOk, IfErr, option_copied, codes};
 ghost use Rattle.std.specs.Io.KnownBytes.{Appends};
@@ -49,12 +49,12 @@ fn write_line<W: Write>(game: &Game, v: Vertex, out: &mut W) -> io::Result<()>
     out.write_all(b";\n")
 }
 
-/// Writes a game in the PGSolver format: `parity N;` with the greatest identifier, then a line for each vertex by
-/// rising identifier, with single spaces between the fields, the successors rising with commas between, the name in
-/// quotes as it stands where there is one, and a newline after each `;`. It makes many small writes: give it a
-/// buffered writer.
+/// Writes a game in PGSolver's format: `parity N;` with the greatest identifier, then a line for each vertex in rising
+/// order of identifiers. The fields of a line are separated by single spaces, the successors rise and are separated by
+/// commas, a name is in quotes as it is, and a newline follows each `;`. It makes many small writes, so pass a buffered
+/// writer.
 ///
-/// The only fault is `Write`, where the writer fails; nothing is then known of how much went out.
+/// It fails only with `Write`, if the writer fails; part of the text may have been written by then.
 pub fn write_game<W: Write>(game: &Game, out: &mut W) -> Result<(), TextFault>
     ensures bytes { OnOk result (Appends (W.contents out.old) (W.contents out.new) (game_text game.now)) }
     ensures refused { IfErr result (λ fault. fault ≡ TextFault.Write) }

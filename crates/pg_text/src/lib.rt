@@ -1,4 +1,4 @@
-//! Texts of games and solutions in the format of PGSolver.
+//! Texts of games and solutions in PGSolver's format.
 #![tactic(auto)]
 
 mod answer;

@@ -1,8 +1,8 @@
-//! Parts of texts, read: numbers, words, semicolons, clauses, and numbers with commas between.
+//! Readers for parts of texts: numbers, words, semicolons, clauses, and lists of numbers with commas.
 //!
-//! Each function reads what stands in front, behind white space, and returns it with the bytes after it. What doesn't
-//! stand there is refused at the first token at fault: with `NumberTooLarge` where a number over 4,294,967,295 stands,
-//! and else with `Syntax`.
+//! Each function reads what is at the front, after white space, and returns it with the remaining bytes. If something
+//! else is there, it returns a fault at the first wrong token: `NumberTooLarge` for a number over 4,294,967,295, and
+//! otherwise `Syntax`.
 
 ghost use Rattle.std.specs.Prelude.{◌≡◌, ◌-◌, length, option_copied};
 ghost use Rattle.pg_text.specs.declared.reading.Refusal.TheVariants.{Memory, Token};
@@ -18,9 +18,9 @@ use std::alloc::{AllocError, AllocFailed};
 /// Why a part of a text is refused.
 #[derive(Clone, Copy, Debug, PartialEq, Eq)]
 pub enum Refusal {
-    /// A growth was refused.
+    /// Memory ran out.
     Memory,
-    /// No token, or not this one, may stand there.
+    /// The next token is the wrong one, or there is none.
     Token(TokenFault),
 }
 
@@ -79,7 +79,7 @@ pub(crate) fn misplaced(bytes: &[u8]) -> TokenFault
     }
 }
 
-/// The number in front.
+/// Reads the number at the front.
 #[inline(always)]
 pub fn natural(bytes: &[u8]) -> Result<(u32, &[u8]), TokenFault>
     ensures { Reads (λ x. (x.0, x.1.now)) result (natural_at bytes.now) }
@@ -102,7 +102,7 @@ fn any_number(bytes: &[u8]) -> Result<(u32, &[u8]), TokenFault>
     }
 }
 
-/// The word in front.
+/// Reads the word at the front.
 #[tactic(auto, unfolding(crate::specs::Mirrors::Parts::name_at))]
 pub fn word(bytes: &[u8]) -> Result<(&[u8], &[u8]), TokenFault>
     ensures { Reads (λ x. (x.0.now, x.1.now)) result (name_at bytes.now) }
@@ -124,7 +124,7 @@ pub(crate) fn string(bytes: &[u8]) -> Result<(&[u8], &[u8]), TokenFault>
     }
 }
 
-/// The semicolon in front: what stands after it.
+/// Reads the semicolon at the front, and returns the bytes after it.
 #[inline(always)]
 pub fn semicolon(bytes: &[u8]) -> Result<&[u8], TokenFault>
     ensures { Reads (λ x. x.now) result (semicolon_at bytes.now) }
@@ -135,7 +135,7 @@ pub fn semicolon(bytes: &[u8]) -> Result<&[u8], TokenFault>
     }
 }
 
-/// The end of the text.
+/// Succeeds if only white space is left.
 #[tactic(auto, unfolding(crate::specs::Mirrors::Parts::end_at))]
 pub fn end(bytes: &[u8]) -> Result<(), TokenFault>
     ensures { Reads (λ x. x) result (end_at bytes.now) }
@@ -146,8 +146,8 @@ pub fn end(bytes: &[u8]) -> Result<(), TokenFault>
     }
 }
 
-/// The number of a clause, which is this word, a number and a semicolon. Where the word doesn't stand in front there is
-/// no number, and all bytes are left.
+/// Reads a clause: this word, a number and a semicolon. It returns the number, or None and all the bytes if the word
+/// isn't at the front.
 #[tactic(auto, unfolding(crate::specs::Mirrors::Parts::clause_at))]
 pub fn clause<'a>(name: &[u8], bytes: &'a [u8]) -> Result<(Option<u32>, &'a [u8]), TokenFault>
     ensures { Reads (λ x. (x.0, x.1.now)) result (clause_at name.now bytes.now) }
@@ -179,7 +179,7 @@ pub(crate) fn further(bytes: &[u8]) -> Result<Option<(u32, &[u8])>, TokenFault>
     }
 }
 
-/// One or more numbers with commas between. They take the place of what the list held.
+/// Reads one or more numbers separated by commas. They replace what the list held.
 #[tactic(auto, unfolding(crate::specs::Mirrors::Parts::numbers_at))]
 pub fn numbers<'a>(list: &mut Vec<u32>, bytes: &'a [u8]) -> Result<&'a [u8], Refusal>
     ensures { Gives (λ rest. (list.new.items, rest.now)) result (numbers_at bytes.now) }

@@ -10,8 +10,8 @@ use pg_arena::{Game, Player, Vertex};
 use std::alloc::{AllocError, Global};
 use std::marker::Model;
 
-/// A winner for each vertex of a game, and perhaps a choice. Contracts see the list of the answers, by the
-/// numbers of the vertices.
+/// For each vertex of a game the winner, and optionally a successor that the winner chooses. Contracts see a solution
+/// as the list of its answers, in the order of the vertex numbers.
 #[derive(Drop)]
 pub struct Solution {
     answers: Vec<Answer>,
@@ -29,7 +29,7 @@ impl Model for Solution {
 impl Solution {
     ghost use Rattle.pg_text.specs.declared.answer.Answer.{Answer};
 
-    /// A solution in which Even wins at each vertex and nothing is chosen.
+    /// A solution in which Even wins every vertex, without choices. Fails only if memory runs out.
     pub fn new(alloc: Global, game: &Game) -> Result<Solution, AllocError>
         ensures { IfOk result (λ s. s ≡ replicate (length game.now) unanswered) }
     {
@@ -41,7 +41,7 @@ impl Solution {
         Ok(Solution { answers })
     }
 
-    /// How many vertices it answers for.
+    /// The number of vertices.
     pub fn len(&self) -> usize
         ensures { result ≡ length self.now }
     {
@@ -56,7 +56,7 @@ impl Solution {
         self.answers[v.0 as usize] = Answer { winner, choice };
     }
 
-    /// Who wins at a vertex.
+    /// The winner of a vertex.
     pub fn winner(&self, v: Vertex) -> Player
         requires { v < length self.now }
         ensures { result ≡ winner self.now v }
@@ -64,7 +64,7 @@ impl Solution {
         self.answers[v.0 as usize].winner
     }
 
-    /// The successor that is chosen at a vertex, where one is named.
+    /// The successor that the winner chooses at a vertex, if there is a choice.
     pub fn choice(&self, v: Vertex) -> Option<Vertex>
         requires { v < length self.now }
         ensures { result ≡ choice self.now v }

@@ -1,4 +1,4 @@
-//! Solutions to text.
+//! Writing solutions.
 
 ghost use Rattle.std.specs.Prelude.{◌≡◌, ℕ, ◌<◌, ◌++◌, length, decimal, codes, OnOk, OnSome, IfErr, option_map};
 ghost use Rattle.std.specs.Io.KnownBytes.{Appends};
@@ -115,11 +115,12 @@ fn write_answer<W: Write>(
     out.write_all(b";\n")
 }
 
-/// Writes a solution of the game in the PGSolver format: `paritysol N;` with the greatest identifier, then a line for
-/// each vertex by rising identifier, with single spaces between the fields, the strategy exactly where the winner owns
-/// the vertex, and a newline after each `;`. It makes many small writes: give it a buffered writer.
+/// Writes a solution of the game in PGSolver's format: `paritysol N;` with the greatest identifier, then a line for
+/// each vertex in rising order of identifiers. The fields of a line are separated by single spaces, it has a strategy
+/// if and only if the winner owns the vertex, and a newline follows each `;`. It makes many small writes, so pass a
+/// buffered writer.
 ///
-/// The only fault is `Write`, where the writer fails; nothing is then known of how much went out.
+/// It fails only with `Write`, if the writer fails; part of the text may have been written by then.
 pub fn write_solution<W: Write>(
     game: &Game,
     solution: &Solution,

@@ -1,4 +1,4 @@
-//! Solutions from text.
+//! Reading solutions.
 
 ghost use Rattle.std.specs.Prelude.{◌≡◌, ◌≢◌, ◌-◌, ℕ, ◌<◌, List, Bool, true, false, length, IfOk, IfErr, OnErr, IfSome, IfNone, MatchResult};
 ghost use Rattle.pg_arena.specs.Games.{identifier, IsEdge, IsGame};
@@ -194,18 +194,20 @@ fn read_lines(alloc: Global, game: &Game, bytes: &[u8]) -> Result<(Solution, Vec
     }
 }
 
-/// The solution that the bytes spell for the game in the PGSolver format: perhaps `paritysol N;`, and then, in any
-/// order, for each vertex one line of its identifier, its winner (0 is Even, 1 is Odd), perhaps the identifier of the
-/// successor that the winner chooses, and a `;`. The number of the header is read and not used. A strategy must stand
-/// where the winner owns the vertex; elsewhere it is read and not used, and the solution has no choice there.
+/// Reads a solution of the game in PGSolver's format: optionally `paritysol N;`, and then one line for each vertex, in
+/// any order. A line has an identifier, a winner (0 is Even, 1 is Odd), optionally the identifier of the successor that
+/// the winner chooses, and a `;`. The number in the header has no effect. A line needs a strategy if the winner owns
+/// the vertex; elsewhere it may have one, which is ignored.
 ///
-/// Refused are, from left to right: by `NotOfGame` a line whose identifier no vertex has, by `Syntax` one whose identifier a line
-/// before has too, and by `NotOfGame` one whose winner owns the vertex and whose strategy is no successor; by `Syntax` or
-/// `NumberTooLarge` what is none of these, nor a line, nor the end; at the end by `Missing` the least identifier of a vertex that has
-/// no line, or no strategy where its winner owns it. How a line goes on behind such an identifier or strategy isn't asked, but for
-/// this: where no token can be read behind an identifier, that fault comes first. Which of `Syntax` and `NumberTooLarge` comes, and
-/// the offset that it names, are tested and in no clause: that of the first token that may not stand where it stands, or of the
-/// identifier that stood before, and `NumberTooLarge` where that token is a number that is too large.
+/// It reads from left to right and returns the first of these faults. `NotOfGame`: a line has an identifier that no
+/// vertex has, or its winner owns the vertex and its strategy is no successor. `Syntax`: a line repeats the identifier
+/// of an earlier line. `Syntax` or `NumberTooLarge`: the next bytes are none of these, and neither a line nor the end
+/// of the text. `Missing`, at the end: the least identifier of a vertex that has no line, or whose line needs a
+/// strategy and has none. After such an identifier or strategy the rest of the line doesn't matter, except that an
+/// identifier must be followed by some token; if it isn't, that fault comes first. No clause says whether it is
+/// `Syntax` or `NumberTooLarge`, or with which offset; tests do: the fault is at the first token that can't stand where
+/// it stands, or at the repeated identifier, and it is `NumberTooLarge` if that token is a number over its limit.
+/// `OutOfMemory` can come at any point.
 pub fn read_solution(alloc: Global, game: &Game, bytes: &[u8]) -> Result<Solution, TextFault>
     ensures found { IfOk result (IsSolutionText bytes.now game.now) }
     // Bytes that spell a solution are read, unless memory runs out, and they spell no other.

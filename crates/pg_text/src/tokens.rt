@@ -1,7 +1,7 @@
-//! The tokens of the PGSolver format, read one at a time: numbers, words, `;`, `,`, strings and the end.
+//! The tokens of PGSolver's format, read one at a time: numbers, words, `;`, `,`, strings and the end.
 //!
-//! A token is a longest one. White space, the bytes 9 to 13 and 32, may stand between any two tokens, before the
-//! first and behind the last, and must stand only between two numbers or two words.
+//! A token is as long as possible. White space, the bytes 9 to 13 and 32, may surround any token; only between two
+//! numbers or two words it is necessary.
 
 ghost use Rattle.std.specs.Prelude.{◌≡◌, ◌<◌, ◌≤◌, ◌+◌, ◌-◌, ◌==◌, ◌∷◌, List, ℕ, Ok, true, false, length, drop, option_map, IfOk, IfErr, IfSome, IsNone, IsOkAnd};
 ghost use Rattle.std.specs.Result.{result_ok};
@@ -29,11 +29,11 @@ pub enum Token<'a> {
     End,
 }
 
-/// Why no token can be read. The number says how many bytes are left from the first byte of the token at fault on,
-/// so that its offset is the length of the text less this number.
+/// Why no token can be read. The number counts the bytes from the first byte of the token at fault to the end of the
+/// text, so the token's offset is the length of the text minus this number.
 #[derive(Clone, Copy, Debug, PartialEq, Eq)]
 pub enum TokenFault {
-    /// No token begins with this byte, or it is the first quote of a string without its second.
+    /// No token begins with this byte, or it is the first quote of a string that has no second one.
     Syntax(usize),
     /// The digits write a number over 4,294,967,295.
     NumberTooLarge(usize),
@@ -247,11 +247,11 @@ pub(crate) fn scan(bytes: &[u8]) -> Result<(Token<'_>, &[u8]), TokenFault>
     solid(after_space(bytes))
 }
 
-/// The next token of a text, and the bytes after it. White space in front is skipped. At the end of the text the
-/// token is `End`.
+/// Reads the next token, after white space, and returns it with the remaining bytes. At the end of the text the token
+/// is `End`.
 ///
-/// Where a number over 4,294,967,295 stands the fault is `NumberTooLarge`; where another byte stands with which no
-/// token begins, or a string without its second quote, it is `Syntax`.
+/// The fault is `NumberTooLarge` for a number over 4,294,967,295, and `Syntax` for a byte that begins no token and for
+/// a string without its second quote.
 pub fn next_token(bytes: &[u8]) -> Result<(Token<'_>, &[u8]), TokenFault>
     ensures spelt { IfOk result (λ x. Begins bytes.now (lexeme x.0) x.1.now) }
     // No other token begins there, and where one begins it is read.
@@ -262,7 +262,8 @@ pub fn next_token(bytes: &[u8]) -> Result<(Token<'_>, &[u8]), TokenFault>
     scan(bytes)
 }
 
-/// How many bytes are left from the next token on: the length of the text less its offset.
+/// The number of bytes from the next token to the end of the text, which is the length of the text minus the token's
+/// offset.
 pub fn left_at(bytes: &[u8]) -> usize
     ensures { result ≡ length (after_space bytes.now) }
 {

@@ -1,5 +1,5 @@
-//! Parts of texts, written: numbers, and numbers with commas between. They make many small writes: give them a buffered
-//! writer.
+//! Writers for parts of texts: numbers, and lists of numbers with commas. They make many small writes, so pass a
+//! buffered writer.
 
 ghost use Rattle.std.specs.Prelude.{◌≡◌, ◌<◌, ◌≤◌, ◌++◌, All, decimal, length, map, replicate, take, OnOk, OnSome};
 ghost use Rattle.std.specs.List.{flat_map};
@@ -15,10 +15,10 @@ use std::io::{self, Write};
 /// 32 zeros, each behind a comma.
 const ZEROS: &[u8] = b",0,0,0,0,0,0,0,0,0,0,0,0,0,0,0,0,0,0,0,0,0,0,0,0,0,0,0,0,0,0,0,0";
 
-/// A short line, put together before it is written: a write costs more than the bytes that it writes.
+/// A short line that is put together before it is written, since a write costs more than the bytes in it.
 pub type ShortLine = ArrayVec<u8, 64>;
 
-/// Appends a number in decimal digits. None where it doesn't fit.
+/// Appends a number in decimal digits. None if it doesn't fit.
 #[inline(always)]
 pub fn add_number(line: &mut ShortLine, number: u32) -> Option<()>
     ensures { OnSome result (line.new.items ≡ line.old.items ++ decimal number) }
@@ -99,7 +99,7 @@ fn write_comma_numbers<W: Write>(numbers: &[u32], out: &mut W) -> io::Result<()>
     Ok(())
 }
 
-/// Writes numbers with commas between and no spaces.
+/// Writes numbers separated by commas, without spaces.
 pub fn write_numbers<W: Write>(numbers: &[u32], out: &mut W) -> io::Result<()>
     ensures { OnOk result (Appends (W.contents out.old) (W.contents out.new) (numbers_text numbers.now)) }
 {
@@ -127,7 +127,7 @@ fn write_comma_identifiers<W: Write>(
     Ok(())
 }
 
-/// Writes the identifiers of vertices with commas between and no spaces.
+/// Writes the identifiers of vertices separated by commas, without spaces.
 pub fn write_identifiers<W: Write>(game: &Game, vertices: &[Vertex], out: &mut W) -> io::Result<()>
     requires { All (λ v. v < length game.now) vertices.now }
     ensures { OnOk result (Appends (W.contents out.old) (W.contents out.new) (identifiers_text game.now vertices.now)) }

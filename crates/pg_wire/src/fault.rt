@@ -1,4 +1,4 @@
-//! Why a frame was refused.
+//! Why a frame is refused.
 ghost use Rattle.std.specs.Prelude.{◌≡◌};
 ghost use Rattle.pg_wire.specs.Faults.{number_of};
 
@@ -11,7 +11,7 @@ pub enum WireFault {
     /// A growth was refused.
     #[error("out of memory")]
     OutOfMemory,
-    /// More than 16,777,216 bytes after the length.
+    /// The frame has more than 16,777,216 bytes after its length.
     #[error("the frame is longer than 16777216 bytes")]
     TooLong,
     /// The bytes end before the frame does.
@@ -20,8 +20,8 @@ pub enum WireFault {
     /// No frame has this kind, or there is no kind.
     #[error("no frame has this kind")]
     BadKind,
-    /// A field that is out of its range or order, or that runs past the frame's end; or bytes after
-    /// the last field. Offsets count bytes from the first one of the length.
+    /// A field is out of its range or order, or runs past the end of the frame, or bytes follow the last field. The
+    /// offset counts bytes from the first one of the length.
     #[error("bad field at byte {0}")]
     BadField(usize),
     /// The reader failed.
@@ -30,13 +30,13 @@ pub enum WireFault {
     /// The writer failed.
     #[error("cannot write a frame")]
     Write,
-    /// A set-up of a version that isn't 1 or 2.
+    /// A set-up has a version other than 1 and 2.
     #[error("unknown version")]
     Version,
 }
 
 impl WireFault {
-    /// The fault's number, 1 to 8. A report of this fault has the code that is ten more.
+    /// The number of the fault, from 1 to 8. The code in a report of this fault is this number plus 10.
     pub fn number(&self) -> u8
         ensures { result ≡ number_of self.now }
     {

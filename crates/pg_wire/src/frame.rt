@@ -13,7 +13,7 @@ pub struct Setup {
     pub bounds: Pairs,
 }
 
-/// What a worker has to know of one of its vertices.
+/// One of a worker's vertices, as the worker needs to know it.
 #[derive(Drop)]
 pub struct VertexLine {
     pub vertex: u32,
@@ -25,7 +25,7 @@ pub struct VertexLine {
     pub successors: Numbers,
 }
 
-/// What the line of a vertex says beside its successors.
+/// The line of a vertex without its successors.
 #[derive(Clone, Copy)]
 pub struct LineHead {
     pub vertex: u32,
@@ -41,11 +41,11 @@ pub struct Vertices {
     pub lines: Items<VertexLine>,
 }
 
-/// A vertex and its measure; no list is top.
+/// A vertex and its measure; None is top.
 #[derive(Drop)]
 pub struct Value {
     pub vertex: u32,
-    /// As many components as the frame's width says.
+    /// The components, as many as the frame's width.
     pub list: Option<Numbers>,
 }
 
@@ -57,15 +57,15 @@ pub struct Values {
     pub values: Items<Value>,
 }
 
-/// A vertex and its measure by the components that aren't 0; no pairs is top.
+/// A vertex and its measure, as the components that aren't 0; None is top.
 #[derive(Drop)]
 pub struct SparseValue {
     pub vertex: u32,
-    /// Each place (below the frame's width, strictly rising) with the number there.
+    /// For each such component its place, below the frame's width, and the component. The places rise strictly.
     pub pairs: Option<Pairs>,
 }
 
-/// The measures of some vertices, which rise strictly, by the components that aren't 0.
+/// The measures of some vertices, which rise strictly, as the components that aren't 0.
 #[derive(Drop)]
 pub struct Sparse {
     /// At most 32,768.
@@ -76,7 +76,7 @@ pub struct Sparse {
 /// Lets a worker lift.
 #[derive(Clone, Copy)]
 pub struct Go {
-    /// At most so many lifts.
+    /// The greatest number of lifts.
     pub budget: u32,
 }
 
@@ -89,7 +89,7 @@ pub struct Report {
     pub code: u8,
 }
 
-/// What a coordinator and a worker send each other.
+/// A message between a coordinator and a worker.
 #[derive(Drop)]
 pub enum Frame {
     Setup(Setup),

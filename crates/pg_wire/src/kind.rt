@@ -11,7 +11,7 @@ pub enum ValueKind {
     Sparse,
 }
 
-/// Whether a component is told by `Sparse`.
+/// Whether `Sparse` lists a component.
 pub fn is_told(n: u32) -> bool
     ensures told { IsTrue result → n ≢ 0 }
     ensures untold { IsFalse result → n ≡ 0 }
@@ -19,7 +19,7 @@ pub fn is_told(n: u32) -> bool
     n != 0
 }
 
-/// How many components aren't 0.
+/// The number of components that aren't 0.
 pub fn nonzero_len(list: &[u32]) -> usize
     ensures count { result ≡ length (nonzero list.now) }
     ensures few { result ≤ length list.now }
@@ -34,7 +34,7 @@ pub fn nonzero_len(list: &[u32]) -> usize
 }
 
 impl ValueKind {
-    /// How many bytes a vertex with this list takes.
+    /// The number of bytes for a vertex with this list.
     pub fn list_size(self, list: &[u32]) -> usize
         requires { length list.now ≤ 32768 }
         ensures size { (vertex : ℕ) → result ≡ length (spelled_as self (vertex, Some list.now)) }
@@ -46,7 +46,7 @@ impl ValueKind {
         }
     }
 
-    /// How many bytes a vertex with top takes.
+    /// The number of bytes for a vertex with top.
     pub fn top_size(self) -> usize
         ensures { (vertex : ℕ) → result ≡ length (spelled_as self (vertex, None)) }
     {

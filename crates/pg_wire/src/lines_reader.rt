@@ -64,8 +64,8 @@ fn lines(bytes: &[u8]) -> Option<&[u8]>
 impl<'a> VerticesReader<'a> {
     ghost use Rattle.pg_wire.specs.LinesLeft.{AreLeft, IsNextLine};
 
-    /// A reader of the lines of the frame that the bytes spell, all of them; none where they don't spell a frame of
-    /// vertices. It takes no memory.
+    /// A reader of the lines in a frame of vertices, or None if the bytes, all of them, don't spell such a frame. It
+    /// takes no memory.
     pub fn open(bytes: &'a [u8]) -> Option<VerticesReader<'a>>
         ensures found { IfSome result (λ r. (ls : List VertexLine) × Spells (frame_with ls) bytes.now × AreLeft r ls) }
         ensures all { (ls : List VertexLine) → Spells (frame_with ls) bytes.now → result ≢ None }
@@ -82,9 +82,9 @@ impl<'a> VerticesReader<'a> {
         }
     }
 
-    /// The next line; its successors are in the vector then, and nothing else. None where no line is left. The only
-    /// fault is want of memory, of which it takes some only where the vector has too little room. Where it answers none
-    /// or a fault, reader and vector are as before.
+    /// Reads the next line. Its successors replace what the vector held. None if no line is left. It fails only if
+    /// memory runs out, and takes memory only if the vector has too little room. If it returns None or fails, reader
+    /// and vector stay as they were.
     pub fn next(&mut self, successors: &mut Vec<u32>) -> Result<Option<LineHead>, AllocError>
         ensures less { IfOk result (λ o. IfSome o (λ x. length self.new.bytes.now < length self.old.bytes.now)) }
         ensures next { (ls : List VertexLine) → AreLeft self.old ls

@@ -1,4 +1,4 @@
-//! Writes frames of vertices, one line after the other, into a buffer that is kept.
+//! Writes frames of vertices, one line after the other, into a buffer that the caller keeps.
 ghost use Rattle.std.specs.Prelude.{◌≡◌, ℕ, ◌+◌, ◌-◌, ◌*◌, ◌^◌, ◌<◌, ◌++◌, ◌∷◌, [], List, length, OnOk, OnErr, IfOk};
 ghost use Rattle.pg_wire.specs.declared.frame.VertexLine.{VertexLine};
 ghost use Rattle.pg_wire.specs.Spelling.{word, line, spelling, longest};
@@ -62,7 +62,7 @@ fn put_line(head: LineHead, successors: &[u32], out: &mut Vec<u8>) -> Result<(),
 impl VerticesWriter {
     ghost use Rattle.pg_wire.specs.LinesWritten.{AreWriting, IsLineAdded};
 
-    /// Begins a frame at the buffer's end. Where memory runs out the buffer is as before.
+    /// Begins a frame at the end of the buffer. If memory runs out, the buffer stays as it was.
     pub fn begin(out: &mut Vec<u8>) -> Result<VerticesWriter, AllocError>
         ensures begun { IfOk result (λ w. AreWriting w out.old.items [] out.new.items) }
         ensures kept { OnErr result (out.new.items ≡ out.old.items) }
@@ -79,8 +79,8 @@ impl VerticesWriter {
         (4 + LONGEST as usize).saturating_sub(out.len().saturating_sub(self.start))
     }
 
-    /// Appends a line; false where the frame would be longer than a frame may be. Where it answers false or memory
-    /// runs out, all is as before.
+    /// Appends a line. False if the frame would be longer than a frame may be. If it returns false or memory runs out,
+    /// writer and buffer stay as they were.
     pub fn push(
         &mut self,
         head: LineHead,

@@ -1,4 +1,4 @@
-//! Reads the measures of a frame one after the other, from its bytes and without memory.
+//! Reads the measures of a frame one after the other, from its bytes, without taking memory.
 ghost use Rattle.std.specs.Prelude.{◌≡◌, ◌≢◌, ◌+◌, ◌*◌, ◌≤◌, ◌<◌, ◌∷◌, List, Some, None, IfSome, IfOk, OnErr, length, cond, true};
 ghost use Rattle.pg_wire.specs.declared.kind.ValueKind.{ValueKind};
 ghost use Rattle.pg_wire.specs.declared.frame.Frame.{Frame};
@@ -157,8 +157,8 @@ fn kind_of(number: u8) -> Option<ValueKind>
 impl<'a> ValuesReader<'a> {
     ghost use Rattle.pg_wire.specs.Left.{IsLeft, IsNext};
 
-    /// A reader of the measures of the frame that the bytes spell, all of them; none where they don't spell a frame
-    /// of measures. It takes no memory.
+    /// A reader of the measures in a frame, or None if the bytes, all of them, don't spell a frame of measures. It
+    /// takes no memory.
     pub fn open(bytes: &'a [u8]) -> Option<ValuesReader<'a>>
         ensures found { IfSome result (λ r. (ms : List Measured) × Spells (frame_of r.kind r.width ms) bytes.now
             × IsLeft r ms) }
@@ -181,15 +181,16 @@ impl<'a> ValuesReader<'a> {
         self.kind
     }
 
-    /// The width of the frame, which each list has.
+    /// The width of the frame, the length of each list in it.
     pub fn width(&self) -> u32
         ensures { result ≡ self.now.width }
     {
         self.width
     }
 
-    /// The next vertex, and whether its measure is top; if not, its list is in the row, which has as many places as
-    /// the width says. None where no value is left; then, and where it is top, the row stays.
+    /// Reads the next vertex, and returns it with true if its measure is top. If it isn't, the list is in the row,
+    /// which must have as many places as the width. None if no value is left. In that case, and for top, the row stays
+    /// as it was.
     #[inline(always)]
     pub fn next(&mut self, row: &mut [u32]) -> Option<(u32, bool)>
         requires { length row.old ≡ self.old.width }

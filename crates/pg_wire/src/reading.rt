@@ -147,15 +147,15 @@ fn from_body(alloc: Global, bytes: &[u8]) -> Result<Frame, WireFault>
     }
 }
 
-/// The frame that the bytes spell, all of them. It takes no more memory than the bytes can fill,
-/// whatever they say.
+/// Reads the frame that the bytes spell, all of them. It takes no more memory than the bytes can fill, even if they are
+/// wrong.
 ///
-/// Faults, in this order: `Truncated` for fewer than four bytes; `TooLong` for a length of more
-/// than 16,777,216; `BadKind` for a length of 0; `Truncated` for fewer bytes than the length says;
-/// `BadField` at the first byte past what it says; `BadKind`; then the fields from first to last,
-/// `Version` for a set-up's version and `BadField` at each other field that is out of its range or
-/// order or past the end; `BadField` at the first byte after the last field. Offsets count from the
-/// first byte of the length.
+/// It returns the first of these faults: `Truncated` for fewer than four bytes; `TooLong` for a length of more than
+/// 16,777,216; `BadKind` for a length of 0; `Truncated` for fewer bytes than the length says; `BadField` at the first
+/// byte past what the length says; `BadKind` for an unknown kind; then, field by field, `Version` for the version of a
+/// set-up, and `BadField` for any other field that is out of its range or order or runs past the end; `BadField` at the
+/// first byte after the last field. Offsets count from the first byte of the length. `OutOfMemory` can come at any
+/// point.
 pub fn decode(alloc: Global, bytes: &[u8]) -> Result<Frame, WireFault>
     ensures found { IfOk result (λ f. Spells f bytes.now) }
     ensures all { (f : Frame) → Spells f bytes.now → (result ≡ Ok f) ⊎ (result ≡ Err OutOfMemory) }

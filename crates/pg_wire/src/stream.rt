@@ -77,13 +77,14 @@ fn read_body<R: Read>(input: &mut R, len: usize, bytes: &mut Vec<u8>) -> Result<
     Ok(())
 }
 
-/// The bytes of the next frame, its length and as many bytes as that counts, in place of those in `bytes`. False where the
-/// input ends before the first byte. It reads no byte past the frame, tries a read again that was interrupted, and takes no
-/// more memory than the bytes that came can fill twice, or one chunk. What the bytes say is left to `decode`.
+/// Reads the bytes of the next frame, its length and as many bytes as the length says, in place of those in `bytes`.
+/// False if the input ends before the first byte. It reads no byte past the frame, repeats a read that was interrupted,
+/// and takes no more memory than twice what the bytes that came fill, or one chunk. It doesn't look at the content of
+/// the frame: `decode` does.
 ///
-/// Faults: `Read` where a read fails; `Truncated` where the input ends within a frame; `TooLong` as soon as the length was
-/// read; `OutOfMemory`. After `TooLong` the length is in `bytes`, and no more was read. After another fault nothing is said of
-/// `bytes`, and the reader isn't to be used again.
+/// Faults: `Read` if a read fails; `Truncated` if the input ends within a frame; `TooLong` as soon as the length was
+/// read; `OutOfMemory`. After `TooLong` `bytes` holds the length, and nothing more was read. After any other fault the
+/// content of `bytes` is unspecified, and you must not use the reader again.
 pub fn read_frame_bytes<R: Read>(input: &mut R, bytes: &mut Vec<u8>) -> Result<bool, WireFault>
     ensures end { result ≡ Ok false → IsAtEnd (R.remaining input.old) }
     ensures frame { result ≡ Ok true → IsWhole bytes.new.items
@@ -112,13 +113,12 @@ pub fn read_frame_bytes<R: Read>(input: &mut R, bytes: &mut Vec<u8>) -> Result<b
     Ok(true)
 }
 
-/// The next frame, or none where the input ends before its first byte. It reads no byte past the
-/// frame, tries a read again that was interrupted, and takes no more memory than the bytes that came
-/// can fill.
+/// Reads the next frame, or returns None if the input ends before its first byte. It reads no byte past the frame,
+/// repeats a read that was interrupted, and takes no more memory than the bytes that came can fill.
 ///
-/// Faults: `Read` where a read fails; `Truncated` where the input ends within a frame; the others as
-/// `decode` has them for the frame's bytes, `TooLong` as soon as the length was read. After a fault
-/// the reader isn't to be used again.
+/// Faults: `Read` if a read fails; `Truncated` if the input ends within a frame; `TooLong` as soon as the length was
+/// read; the others as `decode` returns them for the bytes of the frame. After a fault you must not use the reader
+/// again.
 pub fn read_frame<R: Read>(alloc: Global, input: &mut R) -> Result<Option<Frame>, WireFault>
     ensures end { IfOk result (λ o. IfNone o (IsAtEnd (R.remaining input.old))) }
     ensures frame { IfOk result (λ o. IfSome o (λ f. Spells f (spelling f) × Consumes (R.remaining input.old) (R.remaining input.new) (spelling f))) }

@@ -1,4 +1,4 @@
-//! Writes frames of measures, one measure after the other, into a buffer that is kept.
+//! Writes frames of measures, one measure after the other, into a buffer that the caller keeps.
 ghost use Rattle.std.specs.Prelude.{◌≡◌, ℕ, ◌+◌, ◌-◌, ◌≤◌, ◌<◌, ◌++◌, ◌∷◌, [], List, Some, None, length, OnOk, OnErr, IfOk};
 ghost use Rattle.std.specs.List.{flat_map};
 ghost use Rattle.pg_wire.specs.Spelling.{word, pair, spelling, longest};
@@ -112,7 +112,7 @@ fn put_front(kind: ValueKind, width: u32, count: u32, len: u32, front: &mut [u8]
 impl ValuesWriter {
     ghost use Rattle.pg_wire.specs.Written.{IsWriting, IsAdded};
 
-    /// Begins a frame at the buffer's end. Where memory runs out the buffer is as before.
+    /// Begins a frame at the end of the buffer. If memory runs out, the buffer stays as it was.
     pub fn begin(kind: ValueKind, width: u32, out: &mut Vec<u8>) -> Result<ValuesWriter, AllocError>
         ensures of { IfOk result (λ w. (w.kind ≡ kind) × (w.width ≡ width)) }
         ensures begun { IfOk result (λ w. IsWriting w out.old.items [] out.new.items) }
@@ -135,8 +135,9 @@ impl ValuesWriter {
         (4 + LONGEST as usize).saturating_sub(out.len().saturating_sub(self.start))
     }
 
-    /// Appends a vertex whose measure is a list, of as many numbers as the width says; false where the frame would
-    /// be longer than a frame may be. Where it answers false or memory runs out, all is as before.
+    /// Appends a vertex whose measure is this list, which must have as many numbers as the width. False if the frame
+    /// would be longer than a frame may be. If it returns false or memory runs out, writer and buffer stay as they
+    /// were.
     #[inline(always)]
     pub fn push_list(
         &mut self,
@@ -165,8 +166,8 @@ impl ValuesWriter {
         }
     }
 
-    /// Appends a vertex whose measure is top; false where the frame would be longer than a frame may be. Where it
-    /// answers false or memory runs out, all is as before.
+    /// Appends a vertex whose measure is top. False if the frame would be longer than a frame may be. If it returns
+    /// false or memory runs out, writer and buffer stay as they were.
     pub fn push_top(&mut self, vertex: u32, out: &mut Vec<u8>) -> Result<bool, AllocError>
         ensures of { (self.new.kind ≡ self.old.kind) × (self.new.width ≡ self.old.width) }
         ensures added { (before : List ℕ) (ms : List Measured) → IsWriting self.old before ms out.old.items → IfOk result (λ fits. IsAdded fits self.old self.new before ms (vertex, None) out.old.items out.new.items) }

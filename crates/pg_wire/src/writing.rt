@@ -14,7 +14,7 @@ use byteorder::{BigEndian, ByteOrder, WriteBytesExt};
 use std::alloc::Global;
 use std::io::Write;
 
-/// What has a spelling.
+/// A value that has a spelling.
 pub trait Spell {
     ghost spelled: { Self → List ℕ };
 
@@ -293,11 +293,11 @@ fn put_frame<W: Write>(frame: &Frame, len: u32, out: &mut W) -> Result<(), WireF
     put_body(frame, out)
 }
 
-/// Appends the spelling of a frame. It takes no memory, and writes a few bytes at a time: put a
-/// `BufWriter` before a writer whose calls are dear.
+/// Writes the spelling of a frame. It takes no memory, and writes a few bytes at a time, so put a `BufWriter` before a
+/// writer whose calls are expensive.
 ///
-/// `TooLong`, with nothing written, exactly where more than 16,777,216 bytes would stand after the
-/// length; else `Write` where the writer fails, and then the writer isn't to be used again.
+/// It fails with `TooLong`, and writes nothing, if and only if more than 16,777,216 bytes would follow the length.
+/// Otherwise it fails with `Write` if the writer fails, and then you must not use the writer again.
 pub fn write_frame<W: Write>(frame: &Frame, out: &mut W) -> Result<(), WireFault>
     requires { IsWell frame.now }
     ensures spelled { OnOk result (Appends (W.contents out.old) (W.contents out.new) (spelling frame.now)) }

@@ -11,7 +11,7 @@ pub use Rattle.std.proofs.lemmas.List.{get_or-set_other, get_or-set_same, get_or
 pub use Rattle.std.proofs.lemmas.List.{length-drop, length-map, length-replicate, length-set, length-take-le, map-append, nil_from_length}
 pub use Rattle.std.proofs.lemmas.List.{take-append-drop, take-append-le, take_all, take_more}
 pub use Rattle.std.proofs.lemmas.List.Concat.{flat_map-cons}
-pub use Rattle.std.proofs.lemmas.List.Elements.{All-append, All-cons, All-head, All-map, All-push, All-set, All-tail}
+pub use Rattle.std.proofs.lemmas.List.Elements.{All-append, All-cons, All-head, All-map, All-nil, All-push, All-set, All-tail, All-weaker}
 pub use Rattle.std.proofs.lemmas.List.FromFn.{fill_by_all, get_or-map-range_with_len, length-map-range_with_len}
 pub use Rattle.std.proofs.lemmas.List.Sums.{sum_by-drop_more}
 pub use Rattle.std.proofs.lemmas.Result.{err_from_is_err_and}
@@ -27,10 +27,12 @@ pub use Rattle.pg_arena.specs.declared.player.Player.TheVariants.{Even}
 pub use Rattle.pg_map_lift.specs.Mirrors.Lifters.{KeepsLines, LifterValue, Lifts}
 pub use Rattle.pg_map.proofs.Above.{lift_stays_under}
 pub use Rattle.pg_map.proofs.Joins.{zero_map_least}
+pub use Rattle.pg_map.specs.Lemmas.Orders.{map_reflexive, map_transitive}
 pub use Rattle.pg_map.specs.Lines.{AreWithin, Line, line_at, line_of, only, vertex_line}
-pub use Rattle.pg_map.specs.Maps.{IsClosed, IsLifted, IsMap, IsServed, MapAtMost, MapValue, SomeOrAll, StaysUnder, measure_at, update_map}
+pub use Rattle.pg_map.specs.Maps.{IsClosed, IsJoin, IsLifted, IsMap, IsServed, MapAtMost, MapValue, SomeOrAll, StaysUnder, measure_at, update_map}
 pub use Rattle.pg_map.specs.Maps.{zero_map}
 pub use Rattle.pg_map.specs.declared.update.Update.{Update}
+pub use Rattle.pg_measure.proofs.Order.{at_most_all, at_most_same, below_is}
 pub use Rattle.pg_measure.proofs.Widths.{width_is}
 pub use Rattle.pg_measure.specs.Measures.{AtMost, BoundList, Covers, Fits, MeasureValue, owned, width_from, zeros}
 pub use Rattle.pg_measure.specs.Views.{measure_in}
@@ -38,7 +40,7 @@ pub use Rattle.pg_coord_partition.proofs.Fitting.{components_fit, few_components
 pub use Rattle.pg_coord_partition.proofs.Joining.{all_none, joins_more, joins_none}
 pub use Rattle.pg_coord_partition.proofs.Lists.{all_left, all_right, pairs_left, pairs_map, pairs_right}
 pub use Rattle.pg_coord_partition.proofs.Reading.{first_is, in_row, none_left, some_is}
-pub use Rattle.pg_coord_partition.specs.Frames.{IsAtLeast, IsClosedAt, lines_in, measures_in, told_line}
+pub use Rattle.pg_coord_partition.specs.Frames.{IsAtLeast, IsClosedAt, Joins, lines_in, measures_in, told_line}
 pub use Rattle.pg_wire.proofs.Append.{few, then}
 pub use Rattle.pg_wire.proofs.Bodies.{one_frame}
 pub use Rattle.pg_wire.proofs.Buffers.{extends_by, extends_then}
@@ -67,7 +69,7 @@ pub use Rattle.pg_wire.specs.declared.lines_reader.VerticesReader.{VerticesReade
 pub use Rattle.pg_wire.specs.declared.reader.ValuesReader.{ValuesReader}
 pub use Rattle.pg_wire.specs.declared.writer.ValuesWriter.{ValuesWriter}
 pub use Rattle.pg_worker.specs.Above.{AreFrames, IsAboveSession}
-pub use Rattle.pg_worker.specs.Laws.{AreSteps, IsAtLeastTaken, Lifted, RepliesStayUnder, Step, Taken, ToldStayUnder}
+pub use Rattle.pg_worker.specs.Laws.{AreSteps, IsAtLeastTaken, Lifted, RepliesStayUnder, Step, Taken, ToldStayUnder, updates_in}
 pub use Rattle.pg_worker.specs.Mirrors.Faults.{own_fault}
 pub use Rattle.pg_worker.specs.Mirrors.Insides.{IsNext, IsWhole}
 pub use Rattle.pg_worker.specs.Mirrors.Joins.{JoinsAll}

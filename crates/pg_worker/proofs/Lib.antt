@@ -1,6 +1,7 @@
 pub mod Runs
 pub mod Working
 pub mod Steps
+pub mod StepsJoined
 pub mod Packing
 pub mod Joining
 pub mod Taking

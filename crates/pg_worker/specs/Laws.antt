@@ -1,5 +1,5 @@
 -- What is proved of workers and sessions, over the definitions alone.
-use Rattle.std.specs.Prelude.{◌≡◌, ◌≢◌, ℕ, ◌<◌, List, [], ◌∷◌, length, All, Option}
+use Rattle.std.specs.Prelude.{◌≡◌, ◌≢◌, ℕ, ◌<◌, List, [], ◌∷◌, ◌++◌, length, map, All, Option}
 use Rattle.pg_measure.specs.Measures.{BoundList, MeasureValue, AtMost}
 use Rattle.pg_map.specs.Lines.{Line}
 use Rattle.pg_map.specs.Maps.{MapValue, measure_at, IsMap, zero_map, update_map, MapAtMost, IsClosed, IsJoin}
@@ -9,7 +9,8 @@ use Rattle.pg_wire.specs.declared.frame.Frame.{Frame}
 use Rattle.pg_wire.specs.declared.frame.Frame.TheVariants as frames
 use Rattle.pg_wire.specs.Well.{IsSetup}
 use Rattle.pg_worker.specs.Workers.{part_line, AreLifts}
-use Rattle.pg_coord_partition.specs.Frames.{IsAtLeast, measures_in}
+use Rattle.pg_wire.specs.Measured.{Measured}
+use Rattle.pg_coord_partition.specs.Frames.{IsAtLeast, Joins, measures_in}
 use Rattle.pg_worker.specs.Turns.{SessionValue, lifted_measures, LiftsAndTells}
 use Rattle.pg_worker.specs.Serving.{Replies}
 use Rattle.pg_worker.specs.Above.{AreFrames, IsAboveFrames}
@@ -33,6 +34,18 @@ IsAtLeastTaken [] h = Unit {0}
 IsAtLeastTaken (Taken v m ∷ ss) h = AtMost m (measure_at h v) × IsAtLeastTaken ss h
 IsAtLeastTaken (Lifted us ∷ ss) h = IsAtLeastTaken ss h
 
+-- the updates that the steps join to a map: the values taken, and those that lifts made
+abbrev pub updates_in : List Step → List Measured
+updates_in [] = []
+updates_in (Taken v m ∷ ss) = (v, m) ∷ updates_in ss
+updates_in (Lifted us ∷ ss) = map (λ u. (u.vertex, u.measure.value)) us ++ updates_in ss
+
+-- a worker's map is the join of all that it took and lifted: the least map that is at least zeros and each of these
+abbrev pub StepsJoin : Type 0
+StepsJoin =
+    (bounds : BoundList) (lines : ℕ → Option Line) (count : ℕ) (ss : List Step) (g : List MeasureValue)
+    → AreSteps bounds lines (zero_map bounds count) ss g → Joins (zero_map bounds count) (updates_in ss) g
+
 -- a worker's map is at most every map that is both closed on its part and at least every value taken
 abbrev pub StepsStayUnder : Type 0
 StepsStayUnder =
@@ -40,7 +53,7 @@ StepsStayUnder =
     → AreSteps bounds lines (zero_map bounds count) ss g
     → IsMap bounds count h → IsClosed bounds lines h → IsAtLeastTaken ss h → MapAtMost g h
 
--- what is told after lifts is at most every map that is closed on the part and at least the worker's map
+-- what a worker sends after lifts is at most every map that is closed on the part and at least the worker's map
 abbrev pub ToldStayUnder : Type 0
 ToldStayUnder =
     (h : SessionValue) (budget : ℕ) (after : Option SessionValue) (reply : List ℕ) (k : List MeasureValue)

@@ -67,7 +67,7 @@ IsFaultAt left held e =
     ⊎ ((f : Frame) × (rest : Option (List ℕ)) × Spells f (spelling f) × Consumes left rest (spelling f)
     × Refuses 2 held f e)
 
--- the frames before the fault were answered, none of them Halt and fewer than may be counted, and the fault was told
+-- the frames before the fault were answered, none of them Halt and fewer than may be counted, and the fault was reported
 pub record Breaks (e : WorkerFault) (input output output' : Option (List ℕ)) : Type 0 where
   pub fs : List Frame
   pub held : Option SessionValue

@@ -138,7 +138,7 @@ abbrev pub IsUpTo : ℕ → Frame → Type 0
 IsUpTo highest (frames.Setup s) = s.version ≤ highest
 IsUpTo highest frame = Unit {0}
 
--- why a session that takes versions up to `highest` refuses a frame, want of memory aside
+-- why a session that takes versions up to `highest` refuses a frame, apart from running out of memory
 abbrev pub Refuses : ℕ → Option SessionValue → Frame → WorkerFault → Type 0
 Refuses highest before (frames.Setup s) why = (why ≡ Wire Version) × (highest < s.version)
 Refuses highest before frames.Halt why = ⊥
@@ -170,7 +170,7 @@ pub record DoesTurn (highest : ℕ) (before : Option SessionValue) (bytes : List
   pub halt : IsTrue halts ↔ (frame ≡ frames.Halt)
   pub turn : Turn before frame after reply
 
--- a fault that bytes may have: not want of memory, nor a read or a write that failed
+-- a fault that bytes may have: not running out of memory, nor a read or a write that failed
 abbrev pub IsOfBytes : WireFault → Type 0
 IsOfBytes fault = (fault ≢ wire.OutOfMemory) × (fault ≢ wire.Read) × (fault ≢ wire.Write)
 
@@ -181,7 +181,7 @@ pub record IsNoFrame (bytes : List ℕ) (fault : WireFault) : Type 0 where
   pub too_long : (fault ≡ TooLong) ↔ IsTooLong bytes
   pub truncated : (fault ≡ Truncated) ↔ IsTruncated bytes
 
--- why a session refuses bytes, want of memory aside
+-- why a session refuses bytes, apart from running out of memory
 abbrev pub RefusesBytes : ℕ → Option SessionValue → List ℕ → WorkerFault → Type 0
 RefusesBytes highest before bytes why =
     ((fault : WireFault) × (why ≡ Wire fault) × IsNoFrame bytes fault)

@@ -53,7 +53,7 @@ pub record FitsGame (bounds : BoundList) (count : ℕ) (l : VertexLine) : Type 0
   pub successors : All (λ w. w < count) l.successors
   pub bound : HasBound bounds l.priority
 
--- why lines are refused, want of memory aside: Order comes before BadUpdate
+-- why lines are refused, apart from running out of memory: Order comes before BadUpdate
 abbrev pub RefusesLines : WorkerValue → List VertexLine → WorkerFault → Type 0
 RefusesLines w ls Order = ¬ (AreAbove w.lines ls)
 RefusesLines w ls BadUpdate = AreAbove w.lines ls × ¬ (All (FitsGame w.bounds (length w.map)) ls)

@@ -9,29 +9,29 @@ use pg_wire::WireFault;
 use std::alloc::{AllocError, AllocFailed};
 use thiserror::Error;
 
-/// Why a worker can't do what is asked of it.
+/// Why a worker refuses a request.
 #[derive(Clone, Copy, Debug, PartialEq, Eq, Error)]
 pub enum WorkerFault {
     /// A growth was refused.
     #[error("out of memory")]
     OutOfMemory,
-    /// A lift of a vertex outside the part.
+    /// The vertex to lift is outside the worker's part.
     #[error("the vertex is not of this part")]
     NotMine,
-    /// A vertex number that isn't below the count, a measure that doesn't fit the bounds, or an odd priority without a bound.
+    /// A vertex number isn't below the number of vertices, a measure doesn't fit the bounds, or an odd priority has no
+    /// bound.
     #[error("the value does not fit the game")]
     BadUpdate,
-    /// A frame out of turn, or vertices that don't rise.
+    /// A frame comes out of turn, or its vertices don't rise.
     #[error("out of turn")]
     Order,
-    /// A frame that can't be read or written.
+    /// A frame can't be read or written.
     #[error("{0}")]
     Wire(WireFault),
 }
 
 impl WorkerFault {
-    /// The code of the report that names the fault: 1 to 4 in the order above, or ten more than the number of a frame's
-    /// fault.
+    /// The code in the report of the fault: 1 to 4 in the order above, or for a fault of a frame its number plus 10.
     pub fn code(&self) -> u8
         ensures { result ≡ code_of self.now }
     {
@@ -45,7 +45,7 @@ impl WorkerFault {
     }
 }
 
-/// A fault of a frame as one of a worker: want of memory is the worker's own.
+/// A fault of a frame as one of a worker: `OutOfMemory` is the worker's own.
 pub(crate) fn own(fault: WireFault) -> WorkerFault
     ensures { result ≡ own_fault fault }
 {

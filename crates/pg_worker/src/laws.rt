@@ -1,28 +1,34 @@
-//! What is proved of workers and sessions, over the definitions alone.
+//! Laws about workers and sessions. Each function states one in its contract, and does nothing.
 
 ghost use Rattle.std.specs.Prelude.{ℕ, List, Option};
 ghost use Rattle.pg_measure.specs.Measures.{AreBounds};
 ghost use Rattle.pg_wire.specs.declared.frame.Setup.{Setup};
 ghost use Rattle.pg_wire.specs.Well.{IsSetup};
-ghost use Rattle.pg_worker.specs.Laws.{StepsStayUnder, ToldStayUnder, RepliesStayUnder};
+ghost use Rattle.pg_worker.specs.Laws.{StepsJoin, StepsStayUnder, ToldStayUnder, RepliesStayUnder};
 
-/// The bounds of a set-up that is well are bounds of a map.
+/// The bounds in a valid set-up are the bounds of a map.
 pub fn set_up_bounds()
     ensures { (s : Setup) → IsSetup s → AreBounds s.bounds }
 {}
 
-/// The measures that a Go is answered by are at most every map that is closed on the part and at least the worker's map.
+/// The measures with which a worker answers a Go are at most those of any map that is closed on the worker's part and
+/// at least the worker's map.
 pub fn told_stay_under()
     ensures { ToldStayUnder }
 {}
 
-/// A worker's map is at most every map that is both closed on its part and at least every value taken.
+/// A worker's map is the join of all that it took and lifted, in whatever order.
+pub fn steps_join()
+    ensures { StepsJoin }
+{}
+
+/// A worker's map is at most any map that is closed on its part and at least every value that it took.
 pub fn steps_stay_under()
     ensures { StepsStayUnder }
 {}
 
-/// Each measure in the replies of a session, from a set-up on, is at most every map that is closed at the vertices told since
-/// and at least the values sent since.
+/// From a set-up on, each measure in the replies of a session is at most that of any map that is closed at the vertices
+/// sent since the set-up and at least the values sent since.
 pub fn replies_stay_under()
     ensures { RepliesStayUnder }
 {}

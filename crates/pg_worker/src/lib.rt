@@ -1,5 +1,5 @@
-//! Workers: each holds a part of a game's vertices and lifts them, in a map over all vertices that it joins with the values
-//! of other parts. A session puts a worker behind frames.
+//! Workers. Each holds a part of a game's vertices and lifts them. Its map is over all vertices, and it joins the
+//! values of other parts with it. A session puts a worker behind frames.
 #![tactic(auto)]
 
 mod adding;

@@ -1,6 +1,6 @@
 //! How serving ended, and what each of its steps did.
 
-/// How serving ended, and how many frames were read, Halt included.
+/// How serving ended, and the number of frames that were read, Halt included.
 #[derive(Clone, Copy, Debug, PartialEq, Eq)]
 pub enum Served {
     /// Halt came.

@@ -94,12 +94,12 @@ fn serve_by<R: Read, W: Write>(
     Ok(Served::Bound)
 }
 
-/// Serves frames: reads them one after the other, and writes the replies of a session to `output`. It ends after Halt, where
-/// the input ends before a frame, after 4,294,967,295 frames, or at a fault before that.
+/// Serves frames: reads them one after the other, and writes the replies of a session to `output`. It ends after Halt,
+/// when the input ends before a frame, after 4,294,967,295 frames, or at a fault.
 ///
-/// Faults: those of a session; `Wire` of a frame that can't be read; `Wire(Write)` where a write fails, and then nothing is
-/// said of how much went out. Before it ends with another fault than `Wire(Read)` and `Wire(Truncated)` it writes the
-/// fault's report, which takes no memory; where that write fails the answer is `Wire(Write)`.
+/// Faults: those of a session; `Wire` for a frame that can't be read; `Wire(Write)` if a write fails, which may leave
+/// part of the output written. Before it ends with a fault other than `Wire(Read)` and `Wire(Truncated)`, it writes the
+/// report of the fault, which takes no memory; if that write fails, the fault is `Wire(Write)`.
 pub fn serve<R: Read, W: Write>(
     alloc: Global,
     input: &mut R,

@@ -14,8 +14,8 @@ use crate::turn::{turn_of, turn_of_rows};
 use pg_wire::{Frame, encode};
 use std::alloc::Global;
 
-/// A worker that is told what to do by frames, and answers by frames. Before a set-up, after Halt and after a refusal it holds
-/// nothing.
+/// A worker that gets its orders as frames, and answers with frames. Before a set-up, after Halt and after a refusal it
+/// holds nothing.
 #[derive(Drop)]
 pub struct Session {
     alloc: Global,
@@ -24,7 +24,7 @@ pub struct Session {
 }
 
 impl Session {
-    /// A session that takes set-ups of both versions of the wire format.
+    /// A session that accepts set-ups of both versions of the wire format.
     pub fn new(alloc: Global) -> Session
         ensures highest { result.highest ≡ 2 }
         ensures held { result.held ≡ None }
@@ -32,7 +32,7 @@ impl Session {
         Session::limited(alloc, 2)
     }
 
-    /// A session that takes set-ups of versions up to `highest`, which is 1 or 2.
+    /// A session that accepts set-ups of versions up to `highest`, which is 1 or 2.
     pub fn limited(alloc: Global, highest: u8) -> Session
         ensures highest { result.highest ≡ highest }
         ensures held { result.held ≡ None }
@@ -44,17 +44,18 @@ impl Session {
         }
     }
 
-    /// Does the turn of one frame, and appends the reply to `out`. True for Halt, after which the session holds nothing.
+    /// Handles one frame, and appends the reply to `out`. True for Halt, after which the session holds nothing.
     ///
-    /// A set-up starts the worker anew, with an empty part and zeros; one of version 2 is answered by the report of a quiet
-    /// worker. Vertices are added to the part, before the first values or Go. Values are joined to the map: Values under version
-    /// 1, Sparse under version 2. Go lets the worker lift, and is answered by frames of the measures of the vertices that were
-    /// lifted, each once, rising, and a report.
+    /// A set-up starts the worker anew, with an empty part and zeros; the reply to one of version 2 is the report of a
+    /// quiet worker. Vertices join the part; they come before the first values or Go. Values join the map: Values under
+    /// version 1, Sparse under version 2. At a Go the worker lifts, and replies with frames that have the measures of
+    /// the vertices that it lifted, each once and rising, and with a report.
     ///
-    /// Faults: `Wire(TooLong)` exactly for a frame that is too long to be spelled; `Wire(Version)` for a set-up of a version above
-    /// the session's highest; `Order` for a frame out of turn, and for vertices that don't rise; `BadUpdate` for lines, a width or
-    /// values that don't fit the game; `OutOfMemory`, also for a set-up whose vertices times its bounds are more than 67,108,864,
-    /// whatever memory there is. After a fault `out` is as before, and the session holds nothing.
+    /// Faults: `Wire(TooLong)` if and only if the frame is too long to be spelled; `Wire(Version)` for a set-up of a
+    /// version above the session's highest; `Order` for a frame out of turn, and for vertices that don't rise;
+    /// `BadUpdate` for lines, a width or values that don't fit the game; `OutOfMemory`, also, however much memory there
+    /// is, for a set-up with more than 67,108,864 vertices times bounds. After a fault `out` is as before, and the
+    /// session holds nothing.
     pub fn frame(&mut self, frame: &Frame, out: &mut Vec<u8>) -> Result<bool, WorkerFault>
         requires { IsWell frame.now }
         ensures highest { self.new.highest ≡ self.old.highest }
@@ -77,11 +78,11 @@ impl Session {
         }
     }
 
-    /// As `frame`, for the frame that the bytes spell, all of them. Measures are read from the bytes, one after the other and
-    /// without memory.
+    /// As `frame`, for the frame that the bytes spell, all of them. It reads measures from the bytes one after the
+    /// other, without taking memory.
     ///
-    /// Faults: those of `frame`, and `Wire` with the fault of `decode` where the bytes spell no frame. After a fault `out` is as
-    /// before, and the session holds nothing.
+    /// Faults: those of `frame`, and `Wire` with the fault of `decode` if the bytes spell no frame. After a fault `out`
+    /// is as before, and the session holds nothing.
     pub fn frame_from(&mut self, bytes: &[u8], out: &mut Vec<u8>) -> Result<bool, WorkerFault>
         ensures highest { self.new.highest ≡ self.old.highest }
         ensures turn { IfOk result (λ halts. (reply : List ℕ)
@@ -103,8 +104,8 @@ impl Session {
         }
     }
 
-    /// As `frame_from`, where the bytes spell a frame of vertices or of values, which has no reply: true, and its turn is
-    /// done. False where they spell no such frame, and then nothing has changed.
+    /// As `frame_from`, for a frame of vertices or of values, which has no reply. True if the bytes spell such a frame,
+    /// which is then handled. False if they don't, and then nothing has changed.
     ///
     /// Faults: those of `frame` for that frame. After a fault the session holds nothing.
     pub fn rows_from(&mut self, bytes: &[u8]) -> Result<bool, WorkerFault>

@@ -21,8 +21,8 @@ use std::alloc::{AllocError, Global};
 use std::marker::Model;
 use std::mem;
 
-/// A part of a game, and a measure for each of the game's vertices. Contracts see the bounds, the lines of the part and the map,
-/// and what was lifted last; how it finds the vertices that can be lifted, they don't see.
+/// A part of a game, and a measure for each vertex of the game. Contracts see the bounds, the lines of the part, the
+/// map, and the vertices that were lifted last. They don't see how the worker finds vertices to lift.
 #[derive(Drop)]
 pub struct Worker {
     lifter: Lifter<Part>,
@@ -55,8 +55,8 @@ fn zeros(alloc: Global, setup: &Setup) -> Result<MeasureMap, AllocError>
 }
 
 impl Worker {
-    /// A worker for a game of so many vertices and these bounds: its part is empty, and its map has zeros. It is refused only
-    /// for want of memory.
+    /// A worker for a game with this number of vertices and these bounds. Its part is empty, and its map has zeros. It
+    /// fails only if memory runs out.
     pub fn new(alloc: Global, setup: &Setup) -> Result<Worker, WorkerFault>
         requires { IsSetup setup.now }
         ensures new { IfOk result (λ w. w ≡ new_worker setup.now.bounds setup.now.vertices) }
@@ -75,10 +75,11 @@ impl Worker {
         })
     }
 
-    /// Adds vertices to the part, whose numbers rise, within the call and across calls. It is refused by Order exactly where
-    /// they aren't above those of the part, and then by BadUpdate exactly where the number of a vertex or of a successor
-    /// isn't below the count, or an odd priority has no bound; else where memory runs out only. After a refusal nothing has
-    /// changed. The next value or lift goes over all edges of the part once, to find who leads to each vertex.
+    /// Adds vertices to the part. Their numbers must rise, within the call and from call to call. It fails with `Order`
+    /// if and only if they aren't above those in the part; otherwise with `BadUpdate` if and only if the number of a
+    /// vertex or of a successor isn't below the number of vertices, or an odd priority has no bound; otherwise only if
+    /// memory runs out. After a fault nothing has changed. The next value or lift goes over all edges of the part once,
+    /// to find the predecessors of each vertex.
     pub fn add_vertices(&mut self, lines: &[VertexLine]) -> Result<(), WorkerFault>
         requires { IsVertices (record { lines = lines.now }) }
         ensures added { OnOk result (self.new ≡ record self.old { lines = with_lines self.old.lines lines.now }) }
@@ -99,7 +100,7 @@ impl Worker {
         Ok(())
     }
 
-    /// As `add_vertices`, of one vertex by its head and its successors.
+    /// As `add_vertices`, for one vertex, given by its head and its successors.
     pub fn add_vertex(&mut self, head: LineHead, successors: &[u32]) -> Result<(), WorkerFault>
         requires { 0 < length successors.now }
         ensures added { OnOk result (self.new ≡ record self.old {
@@ -126,8 +127,9 @@ impl Worker {
         Ok(())
     }
 
-    /// Joins the map with an update. True exactly if the value rose. It is refused by BadUpdate exactly where the vertex isn't
-    /// below the count or the measure doesn't fit the bounds; then nothing has changed. It takes no memory.
+    /// Joins an update with the map. True if and only if the value rose. It fails with `BadUpdate` if and only if the
+    /// vertex isn't below the number of vertices or the measure doesn't fit the bounds; then nothing has changed. It
+    /// takes no memory.
     pub fn take(&mut self, update: &Update) -> Result<bool, WorkerFault>
         ensures taken { IfOk result (Takes self.old self.new update.now.vertex update.now.measure.value) }
         ensures ok { IsOk result ↔ CanTake self.old update.now.vertex update.now.measure.value }
@@ -137,7 +139,7 @@ impl Worker {
         self.take_value(update.vertex.0, update.measure.view())
     }
 
-    /// As `take`, with a vertex number and a measure that is lent.
+    /// As `take`, for a vertex number and a borrowed measure.
     pub fn take_value(&mut self, vertex: u32, measure: View) -> Result<bool, WorkerFault>
         ensures taken { IfOk result (Takes self.old self.new vertex (measure_in measure.entry)) }
         ensures ok { IsOk result ↔ CanTake self.old vertex (measure_in measure.entry) }
@@ -150,8 +152,8 @@ impl Worker {
         Ok(self.lifter.take(Vertex(vertex), measure))
     }
 
-    /// Lifts a vertex of the part. None if it is served. It is refused by NotMine exactly outside the part, and else for want
-    /// of memory for the update only; then nothing has changed.
+    /// Lifts a vertex of the part. None if the vertex is served. It fails with `NotMine` if and only if the vertex is
+    /// outside the part, and otherwise only if there is no memory for the update; then nothing has changed.
     pub fn lift(&mut self, v: Vertex) -> Result<Option<Update>, WorkerFault>
         ensures lifted { IfOk result (λ o. IfSome o (λ u. (u.vertex ≡ v) × Lifts self.old self.new (u ∷ []))) }
         ensures served { IfOk result (λ o. IfNone o
@@ -173,8 +175,8 @@ impl Worker {
         Ok(Some(Update { vertex: v, measure }))
     }
 
-    /// Lifts at most `budget` vertices of the part, and fewer only if none can be lifted any more. It is refused for want of memory
-    /// only: then the lifts so far stand, and their updates are in `kept`.
+    /// Makes at most `budget` lifts in the part, and fewer only if no vertex can be lifted any more. It fails only if
+    /// memory runs out; then the lifts so far stay, and their updates are in `kept`.
     pub fn lift_some(&mut self, budget: u32) -> Result<Lifted, WorkerFault>
         ensures turn { IfOk result (λ l. IsTurn self.old self.new budget l.quiet l.updates.items) }
         ensures none_kept { OnOk result (self.new.kept ≡ []) }
@@ -189,8 +191,8 @@ impl Worker {
         Ok(Lifted { quiet, updates })
     }
 
-    /// As `lift_some`, but without updates, and so without memory: the vertices lifted in this turn stand in `lifted`, and
-    /// the answer tells whether no vertex of the part can be lifted.
+    /// As `lift_some`, but without updates, and so without taking memory. `lifted` has the vertices that this turn
+    /// lifted. The answer is whether no vertex of the part can be lifted.
     pub fn lift_turn(&mut self, budget: u32) -> bool
         ensures { IsListedTurn self.old self.new budget result }
     {
@@ -210,7 +212,7 @@ impl Worker {
         lifter.map.get(v)
     }
 
-    /// How many vertices the game has.
+    /// The number of vertices of the game.
     pub fn len(&self) -> u32
         ensures value { result ≡ length self.now.map }
         ensures worker { IsWorker self.now }
@@ -225,22 +227,22 @@ impl Worker {
         self.lifter.bounds()
     }
 
-    /// Whether a vertex is of the part.
+    /// Whether a vertex is in the part.
     pub fn holds(&self, v: Vertex) -> bool
         ensures { IsTrue result ↔ IsSome (part_line self.now.lines v) }
     {
         self.lifter.holds(v)
     }
 
-    /// The updates of a `lift_some` that was refused, in the order in which they were made. None before the first one, and
-    /// after one that wasn't refused.
+    /// The updates of a `lift_some` that failed, in the order in which they were made. There are none before the first
+    /// one, and none after one that succeeded.
     pub fn kept(&self) -> &[Update]
         ensures { result.now ≡ self.now.kept }
     {
         &self.kept
     }
 
-    /// The vertices lifted in the last `lift_turn`, each once, rising. None before the first one.
+    /// The vertices that the last `lift_turn` lifted, each once, rising. There are none before the first one.
     pub fn lifted(&self) -> &[Vertex]
         ensures { result.now ≡ self.now.lifted }
     {

@@ -2,7 +2,7 @@
 
 use pg_arena::Vertex;
 
-/// What may happen next in a world. Replica 0 is the coordinator, replicas 1, 2, .. are the workers.
+/// An event in a world. Replica 0 is the coordinator, and replicas 1, 2, .. are the workers.
 #[derive(Clone, Copy, Debug, PartialEq, Eq)]
 pub enum Event {
     /// The worker lifts a vertex of its part, in its own map.

@@ -6,22 +6,22 @@ ghost use Rattle.pg_world.specs.declared.fault.WorldFault.TheVariants.{OutOfMemo
 use std::alloc::{AllocError, AllocFailed};
 use thiserror::Error;
 
-/// Why a world can't be made, or an event doesn't happen.
+/// Why a world can't be made, or refuses an event.
 #[derive(Clone, Copy, Debug, PartialEq, Eq, Error)]
 pub enum WorldFault {
     /// A growth was refused.
     #[error("out of memory")]
     OutOfMemory,
-    /// There is no replica, or no worker, of this number.
+    /// There is no replica, or no worker, with this number.
     #[error("no replica {0}")]
     NoSuchReplica(u32),
-    /// The vertex with this identifier isn't of this worker.
+    /// The second number is the identifier of a vertex, which doesn't belong to the worker with the first number.
     #[error("vertex {1} is not of worker {0}")]
     NotMine(u32, u32),
-    /// The update of this number was never made.
+    /// No update with this number was made.
     #[error("update {0} was never made")]
     NoSuchUpdate(usize),
-    /// The cut isn't one of the game's vertices.
+    /// The cut doesn't have the vertices of the game.
     #[error("the cut does not fit the game")]
     CutMismatch,
 }

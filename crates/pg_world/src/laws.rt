@@ -1,11 +1,11 @@
-//! Laws over the definitions. Their functions take no memory and do nothing: their contracts are what they are for.
+//! Laws that follow from the definitions. Each function states one in its contract, and does nothing.
 
 ghost use Rattle.pg_world.specs.Laws.{SameTaken, NeverAbove, SpellsOneScript};
 
 use crate::map_laws::of_maps;
 
-/// Where the same updates are taken the maps are equal, whatever the order and the repeats, within one world or between two
-/// worlds over the same bounds and as many vertices.
+/// Replicas that took the same updates have equal maps, whatever the order and the repeats, within one world or in two
+/// worlds with the same bounds and number of vertices.
 pub fn same_taken()
     ensures { SameTaken }
 {}
@@ -18,7 +18,7 @@ pub fn never_above()
     of_maps();
 }
 
-/// For one game one text spells one script at most.
+/// For a given game, a text spells at most one script.
 pub fn one_script()
     ensures { SpellsOneScript }
 {}

@@ -1,4 +1,4 @@
-//! Scripts: a cut and events from text.
+//! Reading scripts: a cut and events.
 
 ghost use Rattle.std.specs.Prelude.{◌≡◌, ◌≢◌, ℕ, ◌<◌, List, length, Option, option_map, IfOk, IfErr, IfSome, IfNone, MatchResult};
 ghost use Rattle.pg_arena.specs.Games.{IsGame, vertex_at};
@@ -20,7 +20,7 @@ use std::alloc::{AllocError, Global};
 /// How many workers a script may name.
 const MAX_WORKERS: u32 = 16;
 
-/// What a script says: how the game is cut among workers, and what happens.
+/// A script: how the game is cut among workers, and the events.
 #[derive(Drop)]
 pub struct Script {
     pub cut: Cut,
@@ -131,16 +131,17 @@ fn read_events(
     }
 }
 
-/// The cut and the events that the bytes spell for the game. The first line is `workers N;`, with N from 0 to 16. The
-/// second may be `cut A,B,..;`, which has for each vertex, by rising identifier, the number of its worker, from 1 to N;
-/// without it the cut is even. Then come the events, in their order: `lift W ID;` is a lift by the worker W of the
-/// vertex with the identifier ID, `deliver R N;` the delivery of the update N to the replica R, `restart W;` a restart
-/// of the worker W, and `central ID;` a lift by the coordinator. Tokens are those of games: white space may stand
-/// between any two of them, and must stand between two numbers.
+/// Reads a script for the game: a cut and events. The first line is `workers N;`, with N from 0 to 16. The second line
+/// may be `cut A,B,..;`, which has for each vertex, in rising order of identifiers, the number of its worker, from 1 to
+/// N; without it the cut is even. Then come the events in their order: `lift W ID;`, worker W lifts the vertex with
+/// identifier ID; `deliver R N;`, replica R takes update N; `restart W;`, worker W restarts; and `central ID;`, the
+/// coordinator lifts. The tokens are those of games: white space may surround any of them, and is necessary only
+/// between two numbers.
 ///
-/// Refused are, from left to right, `Syntax` and `NumberTooLarge` at the token at fault, and, once the `;` of a line
-/// was read, `CutMismatch` where it names more than 16 workers, or numbers that aren't one for each vertex or not those
-/// of workers, and `NoVertex` where no vertex has its identifier. Whether the world refuses an event isn't asked.
+/// It reads from left to right and returns the first fault: `Syntax` or `NumberTooLarge` at the token at fault, and,
+/// after the `;` of a line, `CutMismatch` if the line names more than 16 workers, or its numbers aren't one for each
+/// vertex or aren't those of workers, and `NoVertex` if no vertex has its identifier. It doesn't ask whether the world
+/// refuses an event.
 pub fn read_script(alloc: Global, game: &Game, bytes: &[u8]) -> Result<Script, ScriptFault>
     ensures found { IfOk result (λ script. IsScriptText bytes.now game.now script.cut script.events.items) }
     // Bytes that spell a script are read, unless memory runs out, and they spell no other.

@@ -10,20 +10,20 @@ use std::alloc::{AllocError, AllocFailed};
 use std::error::Error;
 use std::fmt;
 
-/// Why a script is refused. Offsets count bytes from 0 and name the first byte of the token at fault; at the end of the
-/// text they are its length.
+/// Why a script is refused. Offsets count bytes from 0 and point to the first byte of the token at fault; an offset at
+/// the end of the text is the text's length.
 #[derive(Clone, Copy, Debug, PartialEq, Eq)]
 pub enum ScriptFault {
     /// A growth was refused.
     OutOfMemory,
-    /// No token begins at this offset, or another token has to stand there.
+    /// No token begins at this offset, or the token there isn't one that may stand there.
     Syntax(usize),
     /// The number at this offset is over 4,294,967,295.
     NumberTooLarge(usize),
     /// No vertex of the game has this identifier.
     NoVertex(u32),
-    /// There are more than 16 workers, or the line of the cut has not one number for each vertex, or a number that is
-    /// no worker's.
+    /// There are more than 16 workers, or the line of the cut doesn't have exactly one number for each vertex, or one
+    /// of its numbers is no worker's.
     CutMismatch,
 }
 

@@ -22,10 +22,10 @@ use pg_worker::Cut;
 use std::alloc::Global;
 use std::marker::Model;
 
-/// A game cut among workers, with a coordinator: what each of these replicas lifted, and took of what others lifted.
-/// Contracts see the game, its bounds, the cut, the updates ever made, and the numbers of those that each replica took
-/// since its last restart; its map is the join of them. Measures are totally ordered, so that the map has at each vertex the
-/// greatest update of it that was taken: `greatest` has its number, for each replica and vertex.
+/// A game cut among workers, with a coordinator: the updates that each of these replicas made, and those that it took.
+/// Contracts see the game, its bounds, the cut, all updates ever made, and the numbers of those that each replica took
+/// since its last restart; its map is their join. Measures are totally ordered, so the map has at each vertex the
+/// greatest update of it that the replica took: `greatest` has its number, for each replica and vertex.
 #[derive(Drop)]
 pub struct World {
     game: Game,
@@ -51,8 +51,8 @@ impl Model for World {
 }
 
 impl World {
-    /// The world in which nothing has been made. It is refused by CutMismatch exactly where the cut isn't one of the game's
-    /// vertices, and else for want of memory only. Game and cut are used up either way.
+    /// Makes the world in which nothing has happened. It fails with `CutMismatch` if and only if the cut doesn't have
+    /// the vertices of the game, and otherwise only if memory runs out. It uses up game and cut in any case.
     pub fn new(alloc: Global, game: Game, cut: Cut) -> Result<World, WorldFault>
         ensures new { IfOk result (λ w. IsBoundsOf game w.bounds × (w ≡ new_world game w.bounds cut)) }
         ensures cut { OnOk result (length cut.numbers ≡ length game) }
@@ -122,8 +122,8 @@ impl World {
         &self.updates
     }
 
-    /// Lets an event happen. It is refused exactly for the reason against it, or for want of memory; then the world is as
-    /// before. The vertex of a lift is one of the game.
+    /// Makes an event happen. It fails if and only if the world refuses the event, with the reason, or memory runs out;
+    /// then the world is as before. The vertex of a lift must be one of the game.
     pub fn step(&mut self, event: &Event) -> Result<(), WorldFault>
         requires { IsEventOf self.old.game event.now }
         ensures ok { OnOk result ((refusal self.old event.now ≡ None) × Steps self.old event.now self.new) }

@@ -24,14 +24,14 @@ pub returns-in-Ok-clause-under : goal.returns-in-Ok-clause-under
 returns-in-Ok-clause-under c =
     let same : c.take_rows.new.self ≡ c.args.self.now = rw c.if-branch.false at c.in_ok-take_rows.ensures.ok in
     on_ok c.take.result _ _ (λ sends. λ f s h under.
-    sent_above c.args.self.now c.take.new.self f c.in-Ok.frame c.args.frame.now h c.in_ok-take_rows.ensures.small c.in-Ok.ensures.found
-    (subst (λ (m : MemoryValue). Sends c.in-Ok.frame m c.take.new.self) same sends) s under)
+    sent_above c.args.self.now c.take.new.self f c.in-Ok.told c.args.frame.now h c.in_ok-take_rows.ensures.small c.in-Ok.ensures.found
+    (subst (λ (m : MemoryValue). Sends c.in-Ok.told m c.take.new.self) same sends) s under)
     c.take.ensures.ok
 
 pub returns-in-Ok-clause-sent : goal.returns-in-Ok-clause-sent
 returns-in-Ok-clause-sent c =
     let same : c.take_rows.new.self ≡ c.args.self.now = rw c.if-branch.false at c.in_ok-take_rows.ensures.ok in
     on_ok c.take.result _ _ (λ sends. λ f s.
-    subst (λ (g : Frame). Sends g c.args.self.now c.take.new.self) (one_frame c.in-Ok.frame f c.args.frame.now c.in-Ok.ensures.found s)
-    (subst (λ (m : MemoryValue). Sends c.in-Ok.frame m c.take.new.self) same sends))
+    subst (λ (g : Frame). Sends g c.args.self.now c.take.new.self) (one_frame c.in-Ok.told f c.args.frame.now c.in-Ok.ensures.found s)
+    (subst (λ (m : MemoryValue). Sends c.in-Ok.told m c.take.new.self) same sends))
     c.take.ensures.ok
