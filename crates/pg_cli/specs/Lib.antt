@@ -1,3 +1,4 @@
+pub mod InMemory
 pub mod Linked
 pub mod Serving
 pub mod Mirrors

@@ -6,6 +6,7 @@ ghost use Rattle.pg_cli_command.specs.Measuring.{IsClosedMapOf, IsMeasureOf};
 ghost use Rattle.pg_cli_command.specs.Answers.{Answers, Prints, PrintsBy, Refuses, RefusesBy};
 ghost use Rattle.pg_cli_words.specs.Words.{HasFewWorkers, HasNoWorkers};
 
+use crate::memory::in_memory;
 use crate::over_links::Rounds;
 use crate::program::answer_over;
 use pg_cli_command::{CliFault, Command, MOST_BYTES, read_input};
@@ -53,7 +54,7 @@ fn end<R: Reach>(mut links: Vec<SocketLink<R>>) {
     }
 }
 
-/// The programs that solve for a command, as many as it has workers. They are started where they are first wanted.
+/// The programs that solve for a command, as many as it has workers. They are started when they are first needed.
 #[derive(Drop)]
 pub struct Programs<R: Reach> {
     pub links: Vec<SocketLink<R>>,
@@ -63,8 +64,9 @@ impl<R: Reach> Programs<R> {
     ghost use Rattle.std.specs.Prelude.{◌≡◌, ◌<◌, ◌⊎◌, length, unwrap_or, IfOk, IfErr};
     ghost use Rattle.pg_cli_words.specs.Commands.{workers_of};
 
-    /// Listens for so many programs, each of which will be `path`. Refuses `Listen` where no port of 127.0.0.1 can be listened
-    /// at; where the command asks for no workers, or solves nothing, no program is wanted.
+    /// Listens for as many programs as the command has workers; each of them will be `path`. Fails with `Listen` if it
+    /// can't listen at any port of 127.0.0.1. If the command asks for no workers, or solves nothing, it needs no
+    /// program.
     pub fn listen(
         rt: &R,
         alloc: Global,
@@ -79,7 +81,7 @@ impl<R: Reach> Programs<R> {
         Ok(Programs { links })
     }
 
-    /// Writes the answer to a text, as `run_apart` does once it has read its input, and ends the programs. Refuses what
+    /// Writes the answer to a text, as `run_apart` does after it has read its input, and ends the programs. It fails as
     /// `write_answer` does, in the same order.
     pub fn write_answer<W: Write>(
         mut self,
@@ -93,6 +95,7 @@ impl<R: Reach> Programs<R> {
         ensures alone { length self.links.items ≡ 0
             → Answers IsMeasureOf command text.items (W.contents writer.old) (W.contents writer.new) result }
         ensures unread { result ≢ Err CliFault.Read }
+        ensures listened { result ≢ Err CliFault.Listen }
         ensures untouched { IfErr result (λ fault. fault ≢ CliFault.Write → writer.new ≡ writer.old) }
     {
         let workers = self.links.as_mut_slice();
@@ -101,8 +104,9 @@ impl<R: Reach> Programs<R> {
         answered
     }
 
-    /// The answer to a text, in memory: from bytes to bytes, whatever the programs do. They are ended. Refuses what
-    /// `write_answer` does, but never `Write`. Without programs the answer and the refusal are those of `pg_cli::answer`.
+    /// Returns the answer to a text, from bytes to bytes, whatever the programs do, and ends them. It fails as
+    /// `write_answer` does, but never with `Write`. Without programs the answer and the fault are those of
+    /// `pg_cli::answer`.
     pub fn answer(self, alloc: Global, command: Command, text: Vec<u8>) -> Result<Vec<u8>, CliFault>
         requires { length text.items ≤ MOST_BYTES }
         ensures answer { IfOk result (λ output. PrintsBy IsClosedMapOf command text.items output.items) }
@@ -113,24 +117,21 @@ impl<R: Reach> Programs<R> {
         ensures unwritten { result ≢ Err CliFault.Write }
     {
         let mut output = Vec::new(alloc);
-        match self.write_answer(alloc, command, text, &mut output) {
-            Ok(()) => Ok(output),
-            // A write to memory fails for want of it alone.
-            Err(CliFault::Write) => Err(CliFault::OutOfMemory),
-            Err(fault) => Err(fault),
-        }
+        let written = self.write_answer(alloc, command, text, &mut output);
+        in_memory(written, output)
     }
 }
 
-/// As `run`, with the program `path` started as each worker: `path worker --port P`, which has to call `work`. Each program that
-/// was started has ended when this returns; what such a program started in turn may still run.
+/// As `run`, but starts the program `path` as each worker: `path worker --port P`, which must call `work`. Each program
+/// that it started has ended when this returns; programs that those started in turn may still run.
 ///
-/// Whatever the programs do, and also where none can be started, what is printed goes by a closed map of the game and one of
-/// its dual, as for `run_with`. After a number of rounds that the size of the game sets, after 60 seconds in all from where
-/// programs are first started, or where no program is left, the work goes on in this process.
+/// Whatever the programs do, and even if none can be started, the output comes from a closed map of the game and one of
+/// its dual, as for `run_with`. After a number of rounds that depends on the size of the game, 60 seconds after
+/// programs were first started, or when no program is left, the work goes on in this process.
 ///
-/// Refuses what `run` does, in the same order, and before all else `Listen` where no port of 127.0.0.1 can be listened at.
-/// Where the command asks for no workers, or solves nothing, no program is wanted, and the answer or refusal is that of `run`.
+/// It fails as `run` does, in the same order, and before all else with `Listen` if it can't listen at any port of
+/// 127.0.0.1. If the command asks for no workers, or solves nothing, it needs no program, and the answer or fault is
+/// that of `run`.
 pub fn run_apart<S: Reach, R: Read, W: Write>(
     rt: &S,
     alloc: Global,
@@ -144,6 +145,8 @@ pub fn run_apart<S: Reach, R: Read, W: Write>(
         Answers IsClosedMapOf command input (W.contents writer.old) (W.contents writer.new) result) }
     ensures alone { HasNoWorkers command → IfSome (R.remaining reader.old) (λ input.
         Answers IsMeasureOf command input (W.contents writer.old) (W.contents writer.new) result) }
+    // Where no port can be listened at, nothing is read.
+    ensures listens_first { result ≡ Err CliFault.Listen → reader.new ≡ reader.old }
     // Whatever comes of it, no byte behind the first one over the limit is read.
     ensures no_further { StaysWithin (R.remaining reader.old) (R.remaining reader.new) (MOST_BYTES + 1) }
     ensures untouched { IfErr result (λ fault. fault ≢ CliFault.Write → writer.new ≡ writer.old) }

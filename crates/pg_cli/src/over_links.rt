@@ -7,10 +7,12 @@ ghost use Rattle.pg_cli.specs.Linked.{IsLeastOverTold};
 ghost use Rattle.pg_cli.specs.Mirrors.Finding.{IsFoundIf};
 
 use pg_arena::{Game, dual};
-use pg_cli_command::{Maps, Solver};
+use pg_cli_command::{Maps, Proposal, Solver, Untranslated};
 use pg_cli_in_one_piece::InOnePiece;
 use pg_coord::{Link, solve, solve_within};
 use pg_coord_partition::fits_worker;
+use pg_hoa::Automaton;
+use pg_ltl::Formula;
 use pg_map::MeasureMap;
 use pg_measure::Bounds;
 use pg_solver::Found;
@@ -122,6 +124,27 @@ impl<L: Link> Solver for OverLinks<'_, L> {
             }),
             None => InOnePiece.solve(alloc, game),
         }
+    }
+
+    fn propose(&self, alloc: Global, automaton: &Automaton) -> Result<Vec<Proposal>, AllocError> {
+        InOnePiece.propose(alloc, automaton)
+    }
+
+    fn translate(
+        &self,
+        alloc: Global,
+        formula: &Formula,
+        names: &[Vec<u8>],
+    ) -> Result<Vec<u8>, Untranslated> {
+        InOnePiece.translate(alloc, formula, names)
+    }
+
+    fn propose_environment(
+        &self,
+        alloc: Global,
+        automaton: &Automaton,
+    ) -> Result<Vec<Proposal>, AllocError> {
+        InOnePiece.propose_environment(alloc, automaton)
     }
 
     ghost closed = { λ _ game map found. found.closed };

@@ -6,11 +6,12 @@ ghost use Rattle.pg_cli_command.specs.Input.{StaysWithin};
 ghost use Rattle.pg_cli_command.specs.Measuring.{IsClosedMapOf, IsMeasureOf, IsMeasured};
 ghost use Rattle.pg_cli_command.specs.Answers.{Answers, Prints, Refuses};
 ghost use Rattle.pg_cli_command.specs.Parts.{AreApart};
-ghost use Rattle.pg_cli_command.specs.Verifying.{IsVerified, RefusesVerify};
+ghost use Rattle.pg_cli_command.specs.Refuting.{IsLookedAt, RefusesLook};
 ghost use Rattle.pg_cli_words.specs.Commands.{workers_of};
 ghost use Rattle.pg_cli.specs.Linked.{IsLeastOverTold};
 ghost use Rattle.pg_cli_words.specs.Words.{HasFewWorkers};
 
+use crate::memory::in_memory;
 use crate::over_links::{OverLinks, Rounds};
 use pg_cli_command::{CliFault, Command, MOST_BYTES, read_input, run_by};
 use pg_cli_in_one_piece::InOnePiece;
@@ -32,20 +33,20 @@ fn memory_links(alloc: Global, count: u32) -> Result<Vec<MemoryLink>, AllocError
     Ok(links)
 }
 
-/// Reads the whole input, and writes the answer to it and nothing else. Hand it a buffered writer, and flush that.
+/// Reads the whole input, and writes the answer to it and nothing else. Pass a buffered writer, and flush it
+/// afterwards. If the command solves a game of at most 256 vertices, as many workers as the command says share it in
+/// this process, for at most 8 rounds. After that, and for larger games from the start, it is solved in one piece. The
+/// clauses say the same about the answer for every number of workers.
 ///
-/// Where the command solves a game of at most 256 vertices, as many workers in this process share it as the command says, for
-/// 8 rounds at most; from there on, and larger games from the start, it is solved in one piece. What the clauses say of the
-/// answer is the same for every number of them.
-///
-/// Refuses, in this order: `Read`; `InputTooLong` for more than 268,435,456 bytes, of which it reads the first one over
-/// the limit at most; `NoSeparator` where two texts are wanted and no line `--` parts them; `Text` for a text that
-/// doesn't spell what it has to, the first text's fault before the second's, `Script` for a second text that spells no
-/// script for the game, or `Hoa` for one that spells no automaton; `Undecided`, of `solve` and `synth`; `World`, of `replay`
-/// alone, at the first event that is refused; `Synth`, of `game` and `synth`, for an automaton whose game is too large;
-/// `Aiger`, of `synth` alone, for a controller whose circuit is; `Write`, after which nothing is said of how much went out.
-/// `OutOfMemory` may come at any growth. Nothing is written before the work is done, so after another fault than `Write`
-/// nothing was written.
+/// It returns the first of these faults. `Read`. `InputTooLong`: there are more than 268,435,456 bytes; it reads at
+/// most the first one over the limit. `NoSeparator`: the command reads two texts, and there is no line `--` between
+/// them. `Text`, for a game or a solution, the first text's fault before the second's; `Script`, for a second text that
+/// is no script for the game; `Hoa`, for an automaton; for `verify`, then `Circuit`, `Tie`, `Netlist` and `Verify`; `Formula`, for a
+/// formula; then, for `means`, `TooManyPropositions` and `Means`, and for `automaton` `Untranslated`, `Means` and `Unshown`.
+/// `Undecided`, from `solve`, `synth` and `verify`. `World`, from `replay`: the first event that the world refuses.
+/// `Synth`, from `game`, `synth` and `verify`: the game of the automaton is too large. `Aiger`, from `synth`: the
+/// circuit of the controller is too large. `Write`: part of the answer may have been written. `OutOfMemory` can come at
+/// any point. Nothing is written before the work is done, so after a fault other than `Write` nothing was written.
 pub fn run<R: Read, W: Write>(
     alloc: Global,
     command: Command,
@@ -63,8 +64,8 @@ pub fn run<R: Read, W: Write>(
     write_answer(alloc, command, text, writer)
 }
 
-/// Writes the answer to a text, and nothing else: what `run` does once it has read its input. Refuses what `run` does from
-/// `NoSeparator` on, in the same order; never `Read` and never `InputTooLong`.
+/// Writes the answer to a text, and nothing else, as `run` does after it has read its input. It fails as `run` does
+/// from `NoSeparator` on, in the same order, and never with `Read` or `InputTooLong`.
 pub fn write_answer<W: Write>(
     alloc: Global,
     command: Command,
@@ -82,7 +83,7 @@ pub fn write_answer<W: Write>(
     answer_over(alloc, command, workers, Rounds::Few, text, writer)
 }
 
-/// The answer to a text, in memory: from bytes to bytes. Refuses what `write_answer` does, but never `Write`.
+/// Returns the answer to a text, from bytes to bytes. It fails as `write_answer` does, but never with `Write`.
 pub fn answer(alloc: Global, command: Command, text: Vec<u8>) -> Result<Vec<u8>, CliFault>
     requires few { HasFewWorkers command }
     requires limit { length text.items ≤ MOST_BYTES }
@@ -92,26 +93,26 @@ pub fn answer(alloc: Global, command: Command, text: Vec<u8>) -> Result<Vec<u8>,
     ensures unwritten { result ≢ Err CliFault.Write }
 {
     let mut output = Vec::new(alloc);
-    match write_answer(alloc, command, text, &mut output) {
-        Ok(()) => Ok(output),
-        // A write to memory fails for want of it alone.
-        Err(CliFault::Write) => Err(CliFault::OutOfMemory),
-        Err(fault) => Err(fault),
-    }
+    let written = write_answer(alloc, command, text, &mut output);
+    in_memory(written, output)
 }
 
-/// What `verify` prints of an automaton and a circuit in two texts, which nothing has to part; its game is solved in one piece. Refuses
-/// what `pg_cli_command::verify_texts` does.
+/// Returns what `verify` prints for an automaton and a circuit, given as two texts; they need no line `--`. The game is
+/// solved in one piece. It fails as `pg_cli_command::verify_texts` does, or as `refute_texts` if the circuit plays the environment.
 pub fn verify_texts(
     alloc: Global,
     by_place: bool,
+    environment: bool,
     first: Vec<u8>,
     second: Vec<u8>,
 ) -> Result<Vec<u8>, CliFault>
-    ensures answer { IfOk result (λ output. IsVerified (AreApart first.items second.items) by_place output.items) }
+    ensures answer { IfOk result (λ output. IsLookedAt environment (AreApart first.items second.items) by_place output.items) }
     ensures refused { IfErr result (λ fault. (fault ≡ CliFault.OutOfMemory)
-        ⊎ RefusesVerify IsMeasureOf (AreApart first.items second.items) by_place fault) }
+        ⊎ RefusesLook environment IsMeasureOf (AreApart first.items second.items) by_place fault) }
 {
+    if environment {
+        return pg_cli_command::refute_texts(alloc, by_place, first, second, &mut InOnePiece);
+    }
     pg_cli_command::verify_texts(alloc, by_place, first, second, &mut InOnePiece)
 }
 
@@ -135,18 +136,19 @@ pub(crate) fn answer_over<L: Link, W: Write>(
     pg_cli_command::answer(alloc, command, text, &mut solver, writer)
 }
 
-/// As `run`, over the links that are given, at most 16: where the command solves a game, the game is cut evenly among them, and
-/// then its dual. How many workers the command says is of no account, and a command that solves nothing leaves the links alone.
-/// After a number of rounds that the size of the game sets, or where no link is left, `solve` and `synth` go on in this process;
-/// `measure` makes as many rounds as it takes.
+/// As `run`, over the given links, at most 16. If the command solves a game, the game is cut evenly among them, and
+/// then its dual. The number of workers in the command has no effect, and a command that solves nothing doesn't use the
+/// links. After a number of rounds that depends on the size of the game, or when no link is left, `solve` and `synth`
+/// go on in this process; `measure` makes as many rounds as it needs.
 ///
-/// Whatever the links answer, what is printed goes by a closed map of the game and one of its dual, so that the printed winners
-/// win and the printed circuit is accepted. Over honest links the answers and refusals are those of `run`, and `Undecided` never
-/// comes; over others it names a vertex that is the least at which some closed map of the game and some closed map of its dual
-/// are both top. Over links that tell their replies, none of them a failure, `measure` prints the least closed map that is at
-/// least every value in the replies that were taken: of each link at least one, or all.
+/// Whatever the links answer, the output comes from a closed map of the game and one of its dual, so the printed
+/// winners win and the automaton accepts the printed circuit. Over honest links the answers and faults are those of
+/// `run`, and `Undecided` never comes. Over other links `Undecided` names the least vertex at which some closed map of
+/// the game and some closed map of its dual are both top. Over links that tell their replies and don't fail, `measure`
+/// prints the least closed map that is at least every value in the replies that were taken: at least one of each link,
+/// or all.
 ///
-/// Refuses what `run` does, in the same order.
+/// It fails as `run` does, in the same order.
 pub fn run_with<L: Link, R: Read, W: Write>(
     alloc: Global,
     command: Command,

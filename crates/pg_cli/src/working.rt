@@ -38,11 +38,11 @@ fn serve_between<R: Read, W: Write>(
     Ok(())
 }
 
-/// Connects to a port of 127.0.0.1, and serves whoever listens there as a worker, until Halt comes or the input ends. It has
-/// ended, too, where nobody holds the other end any more, which is looked for once a second as long as there are frames to read.
-/// A reply goes by one write.
+/// Connects to a port of 127.0.0.1, and serves as a worker for the program that listens there, until Halt comes or the
+/// input ends. It also ends when nobody holds the other end of the connection any more, which it checks once a second
+/// while there are frames to read. It makes one write for each reply.
 ///
-/// Faults: `Connect` where nobody can be reached at the port; `Worker` with what serving ended with; `OutOfMemory`.
+/// Faults: `Connect` if nobody answers at the port; `Worker` with the fault that ended the serving; `OutOfMemory`.
 pub fn work<R: Net + Files + Clock>(rt: &R, alloc: Global, port: u16) -> Result<(), CliFault>
     ensures { IfErr result (RefusesWork port) }
 {

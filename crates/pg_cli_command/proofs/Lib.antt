@@ -13,8 +13,13 @@ pub mod One
 pub mod Won
 pub mod Made
 pub mod Realized
+pub mod Smaller
+pub mod Countered
 pub mod Within
 pub mod Synthesised
 pub mod Verified
+pub mod Decided
 pub mod Uncontrolled
+pub mod Told
+pub mod Meant
 mod Common

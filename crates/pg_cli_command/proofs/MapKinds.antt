@@ -5,11 +5,14 @@ use Rattle.pg_cli_command.proofs.Common.{RefusesSolve, IsWonFor, IsRealized, IsS
 use Rattle.pg_cli_command.proofs.Common.{Meaning, meaning_of, PrintsBy, RefusesBy, Answers, Command, Measure, Solve, SolveAny, CliFault}
 use Rattle.pg_aiger.specs.declared.fault.AigerFault.TheVariants as aiger
 use Rattle.pg_synth.specs.declared.fault.SynthFault.TheVariants as synth
-use Rattle.pg_cli_words.specs.declared.command.Command.TheVariants.{Synth, Verify}
+use Rattle.pg_cli_words.specs.declared.command.Command.TheVariants.{Synth, SynthSmall, SynthCounter, Verify}
 use Rattle.pg_verify.specs.declared.fault.VerifyFault.TheVariants as verify
 use Rattle.pg_cli_command.specs.Parts.{Parting, IsParted}
+use Rattle.pg_cli_command.specs.Small.{IsSynthesisedSmall}
+use Rattle.pg_cli_command.specs.Counter.{IsSynthesisedCounter, RefusesCounter}
 use Rattle.pg_cli_command.specs.Verifying.{RefusesVerify}
-use Rattle.std.specs.Prelude.{Bool}
+use Rattle.pg_cli_command.specs.Refuting.{RefusesRefute, RefusesLook}
+use Rattle.std.specs.Prelude.{Bool, true, false}
 use Rattle.pg_cli_command.specs.declared.fault.CliFault.TheVariants as cli
 
 -- the least progress measure is closed
@@ -94,6 +97,14 @@ module _ (Kind Other : MapKind) (is_other : (game : List GameVertex) (map : MapV
   synthesised_too input output (inl r) = inl (realized_too input output r)
   synthesised_too input output (inr u) = inr (record { odd = won_too input _ u.odd; printed = u.printed })
 
+  small_too : (input output : List ℕ) → IsSynthesisedSmall Kind input output → IsSynthesisedSmall Other input output
+  small_too input output (inl s) = inl s
+  small_too input output (inr a) = inr (synthesised_too input output a)
+
+  countered_too : (input output : List ℕ) → IsSynthesisedCounter Kind input output → IsSynthesisedCounter Other input output
+  countered_too input output (inl r) = inl (realized_too input output r)
+  countered_too input output (inr c) = inr (record { odd = won_too input _ c.0.odd; printed = c.0.printed }, c.1)
+
   large_too : (input : List ℕ) → HasLargeMachine Kind input → HasLargeMachine Other input
   unfolding won_too
   large_too input l = record { even = won_too input _ l.even; machine = l.machine; follows = l.follows; over = l.over }
@@ -108,6 +119,10 @@ module _ (Kind Other : MapKind) (is_other : (game : List GameVertex) (map : MapV
   unsynthesised_too input (cli.Aiger aiger.TooLarge) why = large_too input why
   unsynthesised_too input _ why = why
 
+  uncountered_too : (input : List ℕ) (fault : CliFault) → RefusesCounter Kind input fault → RefusesCounter Other input fault
+  uncountered_too input cli.NoCounter why = record { odd = won_too input _ why.odd; printed = why.printed }
+  uncountered_too input fault why = unsynthesised_too input fault why
+
   unverified_too : (Parts : Parting) (by_place : Bool) (fault : CliFault) → RefusesVerify Kind Parts by_place fault
       → RefusesVerify Other Parts by_place fault
   unverified_too Parts by_place (cli.Undecided id) why = (why.0, undecided_in_too why.0 id why.1)
@@ -115,14 +130,28 @@ module _ (Kind Other : MapKind) (is_other : (game : List GameVertex) (map : MapV
   unverified_too Parts by_place (cli.Synth synth.TooLarge) why = why
   unverified_too Parts by_place _ why = why
 
+  unrefuted_too : (Parts : Parting) (by_place : Bool) (fault : CliFault) → RefusesRefute Kind Parts by_place fault
+      → RefusesRefute Other Parts by_place fault
+  unrefuted_too Parts by_place (cli.Undecided id) why = (why.0, undecided_in_too why.0 id why.1)
+  unrefuted_too Parts by_place (cli.Verify verify.TooLarge) why = why
+  unrefuted_too Parts by_place (cli.Synth synth.TooLarge) why = why
+  unrefuted_too Parts by_place _ why = why
+
+  unlooked_too : (environment : Bool) (Parts : Parting) (by_place : Bool) (fault : CliFault) → RefusesLook environment Kind Parts by_place fault
+      → RefusesLook environment Other Parts by_place fault
+  unlooked_too true Parts by_place fault why = unrefuted_too Parts by_place fault why
+  unlooked_too false Parts by_place fault why = unverified_too Parts by_place fault why
+
   says_too : (command : Command) (input : List ℕ) → SaysToo (meaning_of Kind command input) (meaning_of Other command input)
   says_too (Measure workers) input = record { prints = measured_too input; refuses = λ fault why. why }
   says_too (Solve workers) input = record { prints = solved_too input; refuses = unsolved_too input }
   says_too (SolveAny workers) input = record { prints = λ output a. a; refuses = unsolved_too input }
   says_too (Synth workers) input = record { prints = synthesised_too input; refuses = unsynthesised_too input }
-  says_too (Verify workers by_place) input = record {
+  says_too (SynthSmall workers) input = record { prints = small_too input; refuses = unsynthesised_too input }
+  says_too (SynthCounter workers) input = record { prints = countered_too input; refuses = uncountered_too input }
+  says_too (Verify workers by_place environment) input = record {
     prints = λ output a. a;
-    refuses = unverified_too (IsParted input) by_place;
+    refuses = unlooked_too environment (IsParted input) by_place;
   }
   says_too _ input = record { prints = λ output a. a; refuses = λ fault why. why }
 

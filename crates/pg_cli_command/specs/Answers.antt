@@ -8,9 +8,13 @@ use Rattle.pg_cli_command.specs.Checking.{IsChecked, RefusesCheck}
 use Rattle.pg_cli_command.specs.Replaying.{IsReplayed, RefusesReplay}
 use Rattle.pg_cli_command.specs.Making.{IsMade, RefusesGame}
 use Rattle.pg_cli_command.specs.Synthesising.{IsSynthesised, RefusesSynth}
-use Rattle.pg_cli_command.specs.Verifying.{IsVerified, RefusesVerify}
+use Rattle.pg_cli_command.specs.Small.{IsSynthesisedSmall}
+use Rattle.pg_cli_command.specs.Counter.{IsSynthesisedCounter, RefusesCounter}
+use Rattle.pg_cli_command.specs.Refuting.{IsLookedAt, RefusesLook}
+use Rattle.pg_cli_command.specs.Meaning.{IsMeant, RefusesMeans}
+use Rattle.pg_cli_command.specs.Translating.{IsTranslated, RefusesAutomaton}
 use Rattle.pg_cli_words.specs.declared.command.Command.{Command}
-use Rattle.pg_cli_words.specs.declared.command.Command.TheVariants.{Measure, Solve, SolveAny, Check, Replay, Game, Synth, Verify}
+use Rattle.pg_cli_words.specs.declared.command.Command.TheVariants.{Measure, Solve, SolveAny, Check, Replay, Automaton, Means, Game, Synth, SynthSmall, SynthCounter, Verify}
 use Rattle.pg_cli_command.specs.declared.fault.CliFault.{CliFault}
 use Rattle.pg_cli_command.specs.declared.fault.CliFault.TheVariants.{OutOfMemory, Read, Write, InputTooLong}
 
@@ -26,11 +30,15 @@ meaning_of Kind (Solve workers) input = record { prints = IsSolved Kind input; r
 meaning_of Kind (SolveAny workers) input = record { prints = IsSolvedAnyhow input; refuses = RefusesSolve Kind input }
 meaning_of Kind Check input = record { prints = IsChecked (IsParted input); refuses = RefusesCheck (IsParted input) }
 meaning_of Kind Replay input = record { prints = IsReplayed (IsParted input); refuses = RefusesReplay (IsParted input) }
+meaning_of Kind Automaton input = record { prints = IsTranslated input; refuses = RefusesAutomaton input }
+meaning_of Kind Means input = record { prints = IsMeant (IsParted input); refuses = RefusesMeans (IsParted input) }
 meaning_of Kind Game input = record { prints = IsMade input; refuses = RefusesGame input }
 meaning_of Kind (Synth workers) input = record { prints = IsSynthesised Kind input; refuses = RefusesSynth Kind input }
-meaning_of Kind (Verify workers by_place) input = record {
-  prints = IsVerified (IsParted input) by_place;
-  refuses = RefusesVerify Kind (IsParted input) by_place;
+meaning_of Kind (SynthSmall workers) input = record { prints = IsSynthesisedSmall Kind input; refuses = RefusesSynth Kind input }
+meaning_of Kind (SynthCounter workers) input = record { prints = IsSynthesisedCounter Kind input; refuses = RefusesCounter Kind input }
+meaning_of Kind (Verify workers by_place environment) input = record {
+  prints = IsLookedAt environment (IsParted input) by_place;
+  refuses = RefusesLook environment Kind (IsParted input) by_place;
 }
 
 -- The command prints the output: the input keeps the limit, and the output is the answer to it.

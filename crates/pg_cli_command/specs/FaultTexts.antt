@@ -1,4 +1,4 @@
--- The line that is told of a fault.
+-- The line that is printed for a fault.
 use Rattle.std.specs.Prelude.{ℕ, List, ◌++◌, codes, decimal}
 use Rattle.pg_text.specs.FaultTexts as text
 use Rattle.pg_world.specs.ScriptFaultTexts as script
@@ -15,16 +15,23 @@ use Rattle.pg_aiger_netlist.specs.declared.fault.NetlistFault.{NetlistFault}
 use Rattle.pg_aiger_netlist.specs.declared.fault.NetlistFault.TheVariants as netlist
 use Rattle.pg_verify.specs.declared.fault.VerifyFault.{VerifyFault}
 use Rattle.pg_verify.specs.declared.fault.VerifyFault.TheVariants as verify
+use Rattle.pg_ltl.specs.FaultTexts as formula
+use Rattle.pg_means.specs.declared.fault.MeansFault.{MeansFault}
+use Rattle.pg_means.specs.declared.fault.MeansFault.TheVariants as means
+use Rattle.pg_cli_command.specs.declared.solver.Untranslated.{Untranslated}
+use Rattle.pg_cli_command.specs.declared.solver.Untranslated.TheVariants as untranslated
 use Rattle.pg_cli_command.specs.declared.fault.CliFault.{CliFault}
 use Rattle.pg_cli_command.specs.declared.fault.CliFault.TheVariants.{OutOfMemory, Read, Write, InputTooLong, NoSeparator, Text, Script, World}
 use Rattle.pg_cli_command.specs.declared.fault.CliFault.TheVariants.{CutMismatch, Undecided, Hoa, Synth, Aiger, Listen, Connect, Worker}
-use Rattle.pg_cli_command.specs.declared.fault.CliFault.TheVariants.{Circuit, Tie, Netlist, Verify}
+use Rattle.pg_cli_command.specs.declared.fault.CliFault.TheVariants.{Circuit, Tie, Netlist, Verify, Hearing}
+use Rattle.pg_cli_command.specs.declared.fault.CliFault.TheVariants as cli
+use Rattle.pg_cli_command.specs.declared.fault.CliFault.TheVariants.{TooManyPropositions, Unshown, NoCounter}
 
--- what is told of the event at this place
+-- the text for the event at this place
 abbrev pub at_event : ℕ → List ℕ → List ℕ
 at_event place why = codes "event " ++ (decimal place ++ (codes ": " ++ why))
 
--- why an event is refused; any want of memory has one text, and so has a cut that doesn't fit
+-- why an event is refused; running out of memory has one text, and so has a cut that doesn't fit
 abbrev pub event_text : ℕ → WorldFault → List ℕ
 event_text place world.OutOfMemory = codes "out of memory"
 event_text place (world.NoSuchReplica n) = at_event place (codes "no replica " ++ decimal n)
@@ -54,6 +61,17 @@ abbrev pub verify_text : VerifyFault → List ℕ
 verify_text verify.OutOfMemory = codes "out of memory"
 verify_text verify.TooLarge = codes "circuit and automaton too large together"
 
+abbrev pub means_text : MeansFault → List ℕ
+means_text means.OutOfMemory = codes "out of memory"
+means_text means.TooLarge = codes "automaton and formula too large together"
+means_text means.Undecided = codes "undecided"
+
+-- why no automaton is found for a formula
+abbrev pub untranslated_text : Untranslated → List ℕ
+untranslated_text untranslated.OutOfMemory = codes "out of memory"
+untranslated_text untranslated.TooManyStates = codes "automaton of the formula has too many states"
+untranslated_text untranslated.TooManySteps = codes "automaton of the formula takes too many steps"
+
 abbrev pub fault_text : CliFault → List ℕ
 fault_text OutOfMemory = codes "out of memory"
 fault_text Read = codes "cannot read the input"
@@ -72,9 +90,16 @@ fault_text (Circuit fault) = reader.reader_fault_text fault
 fault_text (Tie fault) = reader.tie_fault_text fault
 fault_text (Netlist fault) = netlist_text fault
 fault_text (Verify fault) = verify_text fault
+fault_text (Hearing place) = codes "output " ++ (decimal place ++ codes " depends on an input of the same step")
+fault_text NoCounter = codes "no circuit found that plays the environment"
 fault_text Listen = codes "cannot listen on 127.0.0.1"
 fault_text (Connect port) = codes "cannot connect to port " ++ decimal port
 fault_text (Worker fault) = worker_text fault
+fault_text (cli.Formula fault) = formula.fault_text fault
+fault_text TooManyPropositions = codes "more than 16 propositions"
+fault_text (cli.Means fault) = means_text fault
+fault_text (cli.Untranslated fault) = untranslated_text fault
+fault_text Unshown = codes "automaton of the formula is not shown to be right"
 
 -- `parsolve: `, the text and a newline
 abbrev pub fault_line : CliFault → List ℕ

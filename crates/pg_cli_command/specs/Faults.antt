@@ -23,13 +23,22 @@ use Rattle.pg_aiger_netlist.specs.declared.fault.NetlistFault.{NetlistFault}
 use Rattle.pg_aiger_netlist.specs.declared.fault.NetlistFault.TheVariants as netlist
 use Rattle.pg_verify.specs.declared.fault.VerifyFault.{VerifyFault}
 use Rattle.pg_verify.specs.declared.fault.VerifyFault.TheVariants as verify
+use Rattle.pg_ltl.specs.declared.fault.FormulaFault.{FormulaFault}
+use Rattle.pg_ltl.specs.declared.fault.FormulaFault.TheVariants as formula
+use Rattle.pg_means.specs.declared.fault.MeansFault.{MeansFault}
+use Rattle.pg_means.specs.declared.fault.MeansFault.TheVariants as means
+use Rattle.pg_means_texts.specs.declared.fault.CompareFault.{CompareFault}
+use Rattle.pg_means_texts.specs.declared.fault.CompareFault.TheVariants as compare
 use Rattle.pg_worker.specs.declared.fault.WorkerFault.{WorkerFault}
 use Rattle.pg_worker.specs.declared.fault.WorkerFault.TheVariants as worker
 use Rattle.pg_cli_command.specs.declared.fault.CliFault.TheVariants.{OutOfMemory, Write, Text, Script, World}
 use Rattle.pg_cli_command.specs.declared.fault.CliFault.TheVariants.{Undecided, Hoa, Synth, Aiger, Worker}
 use Rattle.pg_cli_command.specs.declared.fault.CliFault.TheVariants.{Circuit, Tie, Netlist, Verify}
+use Rattle.pg_cli_command.specs.declared.fault.CliFault.TheVariants as cli
+use Rattle.pg_cli_command.specs.declared.solver.Untranslated.{Untranslated}
+use Rattle.pg_cli_command.specs.declared.solver.Untranslated.TheVariants as untranslated
 
--- want of memory and the writer's failure are the program's own
+-- running out of memory and the writer's failure are the program's own
 abbrev pub text_fault : TextFault → CliFault
 text_fault text.OutOfMemory = OutOfMemory
 text_fault text.Write = Write
@@ -84,6 +93,25 @@ verify_fault fault = Verify fault
 abbrev pub worker_fault : WorkerFault → CliFault
 worker_fault worker.OutOfMemory = OutOfMemory
 worker_fault fault = Worker fault
+
+-- and what the reader of formulas, the look at a formula and the search for its automaton say
+abbrev pub formula_fault : FormulaFault → CliFault
+formula_fault formula.OutOfMemory = OutOfMemory
+formula_fault fault = cli.Formula fault
+
+abbrev pub means_fault : MeansFault → CliFault
+means_fault means.OutOfMemory = OutOfMemory
+means_fault fault = cli.Means fault
+
+abbrev pub compare_fault : CompareFault → CliFault
+compare_fault (compare.Hoa fault) = hoa_fault fault
+compare_fault (compare.Formula fault) = formula_fault fault
+compare_fault compare.TooManyPropositions = cli.TooManyPropositions
+compare_fault (compare.Means fault) = means_fault fault
+
+abbrev pub untranslated_fault : Untranslated → CliFault
+untranslated_fault untranslated.OutOfMemory = OutOfMemory
+untranslated_fault fault = cli.Untranslated fault
 
 -- Undecided has a status of its own
 abbrev pub status_of : CliFault → ℕ

@@ -8,10 +8,17 @@ pub mod Replaying
 pub mod Making
 pub mod Synthesising
 pub mod Verifying
+pub mod Refuting
+pub mod Verdicts
 pub mod Answers
 pub mod Faults
 pub mod FaultTexts
 pub mod Laws
 pub mod Winners
 pub mod Controllers
+pub mod Small
+pub mod Meaning
+pub mod Translating
+pub mod FormulaLaws
+pub mod Counter
 pub mod Mirrors

@@ -6,3 +6,5 @@ pub mod Unsolved
 pub mod Looking
 pub mod Synthesised
 pub mod Working
+pub mod Small
+pub mod Counter

@@ -9,8 +9,11 @@ use Rattle.pg_aiger.specs.Circuits.{Circuit}
 use Rattle.pg_aiger.specs.CircuitText.{Symbol}
 use Rattle.pg_aiger_netlist.specs.Netlists.{IsAcyclic, IsFaultOf}
 use Rattle.pg_aiger_reader.specs.Texts.{IsRead, SpellsNone}
+use Rattle.pg_aiger_reader.specs.Faults.{Refuses}
 use Rattle.pg_aiger_reader.specs.Ties.{IsTied, IsTieFault}
 use Rattle.pg_aiger_reader.specs.declared.fault.TieFault.{TieFault}
+use Rattle.pg_verify.specs.Products.{HasLargeGame}
+use Rattle.pg_verify.specs.Reached.{HasTooManyStates}
 use Rattle.pg_verify.specs.Verdicts.{Says}
 use Rattle.pg_verify.specs.declared.verdict.Verdict.{Verdict}
 use Rattle.pg_verify.specs.declared.verdict.Verdict.TheVariants.{Accepted, Stuck, Rejected}
@@ -56,13 +59,14 @@ pub record ArePaired (Parts : Parting) (by_place : Bool) (automaton : Automaton)
   pub read : IsRead second given symbols
   pub tied_by : IsTied by_place automaton given symbols tied
 
--- The output is the text of a verdict that is right.
+-- Not too many states are reached, and the output is the text of a verdict that is right.
 pub record IsVerified (Parts : Parting) (by_place : Bool) (output : List ℕ) : Type 0 where
   pub automaton : Automaton
   pub given : Circuit
   pub tied : Circuit
   pub paired : ArePaired Parts by_place automaton given tied
   pub acyclic : IsAcyclic tied
+  pub within : ¬ HasTooManyStates automaton tied
   pub verdict : Verdict
   pub says : Says automaton paired.spelt.says.condition tied verdict
   pub printed : output ≡ verdict_text given.inputs tied.inputs verdict
@@ -91,10 +95,10 @@ IsPair Parts by_place P = (a : Automaton) × (given : Circuit) × (tied : Circui
 abbrev pub RefusesVerify : MapKind → Parting → Bool → CliFault → Type 0
 RefusesVerify Kind Parts by_place NoSeparator = (first second : List ℕ) → ¬ Parts first second
 RefusesVerify Kind Parts by_place (Hoa fault) = FailsFirstText Parts (λ first. IsNoAutomaton first fault)
-RefusesVerify Kind Parts by_place (cli.Circuit fault) = FailsSecondText Parts (λ a second. SpellsNone second)
+RefusesVerify Kind Parts by_place (cli.Circuit fault) = FailsSecondText Parts (λ a second. SpellsNone second × Refuses second fault)
 RefusesVerify Kind Parts by_place (Tie fault) = FailsSecondText Parts (IsUntied by_place fault)
 RefusesVerify Kind Parts by_place (Netlist fault) = IsPair Parts by_place (λ a tied. IsFaultOf tied fault)
-RefusesVerify Kind Parts by_place (Verify verify.TooLarge) = IsPair Parts by_place (λ a tied. IsAcyclic tied)
-RefusesVerify Kind Parts by_place (Synth synth.TooLarge) = IsPair Parts by_place (λ a tied. IsAcyclic tied)
+RefusesVerify Kind Parts by_place (Verify verify.TooLarge) = IsPair Parts by_place (λ a tied. IsAcyclic tied × HasTooManyStates a tied)
+RefusesVerify Kind Parts by_place (Synth synth.TooLarge) = IsPair Parts by_place (λ a tied. IsAcyclic tied × HasLargeGame a tied)
 RefusesVerify Kind Parts by_place (Undecided id) = (game : List GameVertex) × IsUndecidedIn Kind game id
 RefusesVerify Kind Parts by_place _ = ⊥

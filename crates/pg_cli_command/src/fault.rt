@@ -5,14 +5,18 @@ ghost use Rattle.std.specs.Io.KnownBytes.{Appends};
 ghost use Rattle.pg_cli_command.specs.Faults.{text_fault, script_fault, event_fault, check_fault};
 ghost use Rattle.pg_cli_command.specs.Faults.{hoa_fault, synth_fault, aiger_fault, worker_fault, status_of};
 ghost use Rattle.pg_cli_command.specs.Faults.{circuit_fault, tie_fault, netlist_fault, verify_fault};
+ghost use Rattle.pg_cli_command.specs.Faults.{formula_fault, means_fault, compare_fault, untranslated_fault};
 ghost use Rattle.pg_cli_command.specs.FaultTexts.{fault_text, fault_line};
 ghost use Rattle.pg_cli_command.specs.declared.fault.CliFault.TheVariants as cli;
 
+use crate::solver::Untranslated;
 use pg_aiger::AigerFault;
 use pg_aiger_netlist::NetlistFault;
 use pg_aiger_reader::{ReaderFault, TieFault};
 use pg_check::CheckFault;
 use pg_hoa::HoaFault;
+use pg_ltl::FormulaFault;
+use pg_means_texts::{CompareFault, MeansFault};
 use pg_synth::SynthFault;
 use pg_text::TextFault;
 use pg_verify::VerifyFault;
@@ -24,51 +28,67 @@ use std::error::Error;
 use std::fmt;
 use std::io::{self, Write};
 
-/// Why a command gives no answer. Its text is what the program prints on the error stream after `parsolve: `. That of any want
-/// of memory is `out of memory`, also of one in the fault of a lower layer, which no command answers.
+/// Why a command has no answer. Its text is what the program prints on the error stream after `parsolve: `. If memory
+/// runs out, the text is `out of memory`, even if the fault of a lower layer says so, which no command returns.
 #[derive(Debug, Drop)]
 pub enum CliFault {
     /// A growth was refused.
     OutOfMemory,
     /// The input could not be read to its end.
     Read,
-    /// The output could not be written; nothing is said of how much went out.
+    /// The output could not be written; part of it may have been.
     Write,
     /// The input has more than 268,435,456 bytes.
     InputTooLong,
-    /// No line `--` stands between two texts.
+    /// There is no line `--` between the two texts.
     NoSeparator,
-    /// A text doesn't spell what it has to; never `OutOfMemory` or `Write`.
+    /// A text is no game, or no solution; never `OutOfMemory` or `Write`.
     Text(TextFault),
-    /// A text spells no script for the game; never `OutOfMemory`.
+    /// A text is no script for the game; never `OutOfMemory`.
     Script(ScriptFault),
-    /// The event at this place of a script, from 0, is the first that the world refuses; never `OutOfMemory`.
+    /// The world refuses the event with this index in the script, counted from 0, the first that it refuses; never
+    /// `OutOfMemory`.
     World(usize, WorldFault),
-    /// The cut among the workers isn't one of the game; never comes of a command.
+    /// The cut among the workers doesn't fit the game; no command returns this.
     CutMismatch,
-    /// Both maps that were found, that of the game and that of its dual, are top at the vertex with this identifier, and at
-    /// none with a lesser one. They are the least progress measures, unless other maps may be found.
+    /// The solver's map of the game and its map of the dual are both top at the vertex with this identifier, the least
+    /// such one. The maps are the least progress measures, unless the solver may find others.
     Undecided(u32),
-    /// A text spells no automaton; never `OutOfMemory`.
+    /// A text is no automaton; never `OutOfMemory`.
     Hoa(HoaFault),
     /// The game of an automaton is too large; never `OutOfMemory`.
     Synth(SynthFault),
     /// The circuit of a controller is too large; never `OutOfMemory` or `Write`.
     Aiger(AigerFault),
-    /// A text spells no circuit; never `OutOfMemory`.
+    /// A text is no circuit; never `OutOfMemory`.
     Circuit(ReaderFault),
-    /// A circuit's inputs and outputs aren't the propositions of an automaton; never `OutOfMemory`.
+    /// The inputs and outputs of a circuit don't match the propositions of an automaton; never `OutOfMemory`.
     Tie(TieFault),
     /// The lines of a circuit contradict one another, or its gates have a cycle; never `OutOfMemory`.
     Netlist(NetlistFault),
     /// The product of a circuit and an automaton is too large; never `OutOfMemory`.
     Verify(VerifyFault),
-    /// No port of 127.0.0.1 could be listened at.
+    /// The output at this place, counted from 0 in the order of the propositions that the environment sets, depends on an input of the
+    /// same step.
+    Hearing(usize),
+    /// There is no controller, and no circuit was found that plays the environment.
+    NoCounter,
+    /// The program can't listen at any port of 127.0.0.1.
     Listen,
-    /// Nobody could be reached at this port of 127.0.0.1.
+    /// Nobody answers at this port of 127.0.0.1.
     Connect(u16),
-    /// A worker's serving ended so; never `OutOfMemory`.
+    /// A worker ended with this fault; never `OutOfMemory`.
     Worker(WorkerFault),
+    /// A text is no formula; never `OutOfMemory`.
+    Formula(FormulaFault),
+    /// An automaton and a formula have more than 16 propositions together.
+    TooManyPropositions,
+    /// There is no verdict on an automaton and a formula; never `OutOfMemory`.
+    Means(MeansFault),
+    /// No automaton is found for a formula; never `OutOfMemory`.
+    Untranslated(Untranslated),
+    /// The automaton that is found for a formula isn't shown to accept exactly its words. No input is known for which this happens.
+    Unshown,
 }
 
 impl fmt::Display for CliFault {
@@ -124,6 +144,11 @@ impl fmt::Display for CliFault {
                 VerifyFault::OutOfMemory => f.write_str("out of memory"),
                 VerifyFault::TooLarge => f.write_str("circuit and automaton too large together"),
             },
+            CliFault::Hearing(place) => write!(
+                f,
+                "output {place} depends on an input of the same step"
+            ),
+            CliFault::NoCounter => { f.write_str("no circuit found that plays the environment") }
             CliFault::Listen => f.write_str("cannot listen on 127.0.0.1"),
             CliFault::Connect(port) => write!(f, "cannot connect to port {port}"),
             CliFault::Worker(fault) => match fault {
@@ -134,6 +159,23 @@ impl fmt::Display for CliFault {
                 WorkerFault::Wire(WireFault::OutOfMemory) => f.write_str("out of memory"),
                 WorkerFault::Wire(_) => f.write_str("worker fault 5"),
             },
+            CliFault::Formula(fault) => write!(f, "{fault}"),
+            CliFault::TooManyPropositions => f.write_str("more than 16 propositions"),
+            CliFault::Means(fault) => match fault {
+                MeansFault::OutOfMemory => f.write_str("out of memory"),
+                MeansFault::TooLarge => f.write_str("automaton and formula too large together"),
+                MeansFault::Undecided => f.write_str("undecided"),
+            },
+            CliFault::Untranslated(fault) => match fault {
+                Untranslated::OutOfMemory => f.write_str("out of memory"),
+                Untranslated::TooManyStates => {
+                    f.write_str("automaton of the formula has too many states")
+                }
+                Untranslated::TooManySteps => {
+                    f.write_str("automaton of the formula takes too many steps")
+                }
+            },
+            CliFault::Unshown => f.write_str("automaton of the formula is not shown to be right"),
         }
     }
 }
@@ -290,7 +332,53 @@ impl From<WorkerFault> for CliFault {
     }
 }
 
-/// The status that the program ends with: 3 for `Undecided`, and else 1.
+impl From<FormulaFault> for CliFault {
+    ghost from_gives = { λ fault e. e ≡ formula_fault fault };
+
+    fn from(fault: FormulaFault) -> CliFault {
+        match fault {
+            FormulaFault::OutOfMemory => CliFault::OutOfMemory,
+            _ => CliFault::Formula(fault),
+        }
+    }
+}
+
+impl From<MeansFault> for CliFault {
+    ghost from_gives = { λ fault e. e ≡ means_fault fault };
+
+    fn from(fault: MeansFault) -> CliFault {
+        match fault {
+            MeansFault::OutOfMemory => CliFault::OutOfMemory,
+            _ => CliFault::Means(fault),
+        }
+    }
+}
+
+impl From<CompareFault> for CliFault {
+    ghost from_gives = { λ fault e. e ≡ compare_fault fault };
+
+    fn from(fault: CompareFault) -> CliFault {
+        match fault {
+            CompareFault::Hoa(fault) => CliFault::from(fault),
+            CompareFault::Formula(fault) => CliFault::from(fault),
+            CompareFault::TooManyPropositions => CliFault::TooManyPropositions,
+            CompareFault::Means(fault) => CliFault::from(fault),
+        }
+    }
+}
+
+impl From<Untranslated> for CliFault {
+    ghost from_gives = { λ fault e. e ≡ untranslated_fault fault };
+
+    fn from(fault: Untranslated) -> CliFault {
+        match fault {
+            Untranslated::OutOfMemory => CliFault::OutOfMemory,
+            _ => CliFault::Untranslated(fault),
+        }
+    }
+}
+
+/// The exit status of the program: 3 for `Undecided`, and otherwise 1.
 pub fn exit_code(fault: &CliFault) -> u8
     ensures { result ≡ status_of fault.now }
 {
@@ -300,7 +388,7 @@ pub fn exit_code(fault: &CliFault) -> u8
     }
 }
 
-/// Writes the fault's line: `parsolve: `, its text and a newline. It takes no memory, and fails only where the writer
+/// Writes the line of a fault: `parsolve: `, its text and a newline. It takes no memory, and fails only if the writer
 /// does.
 pub fn write_fault<W: Write>(fault: &CliFault, writer: &mut W) -> io::Result<()>
     ensures { OnOk result (Appends (W.contents writer.old) (W.contents writer.new) (fault_line fault.now)) }

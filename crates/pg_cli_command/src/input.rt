@@ -8,7 +8,7 @@ use crate::fault::CliFault;
 use std::alloc::{AllocError, Global};
 use std::io::{ErrorKind, Read};
 
-/// The most bytes that an input may have.
+/// The greatest number of bytes in an input.
 pub const MOST_BYTES: usize = 268_435_456;
 
 /// How many bytes are asked for at once.
@@ -55,7 +55,8 @@ fn read_some<R: Read>(
     }
 }
 
-/// Reads an input to its end. It reads no further than the first byte over the limit.
+/// Reads an input to its end. It reads no further than the first byte over the limit. Fails with `Read` if a read
+/// fails, `InputTooLong` if there are more than `MOST_BYTES` bytes, and `OutOfMemory`.
 pub fn read_input<R: Read>(alloc: Global, reader: &mut R) -> Result<Vec<u8>, CliFault>
     ensures bytes { IfOk result (λ text. IfSome (R.remaining reader.old) (λ input. text.items ≡ input)) }
     ensures end { OnOk result (IsAtEnd (R.remaining reader.new)) }

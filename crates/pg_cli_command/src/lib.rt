@@ -1,18 +1,23 @@
-//! The commands of the program. Each is a function from a text to an answer, a value whose text is then written. A method of
-//! solving is what finds maps of games: a command that solves takes one.
+//! The commands of the program. Each is a function from a text to an answer, a value whose text is then written. A
+//! command that solves takes a method of solving, which finds maps of games.
 #![tactic(auto)]
 
+mod automaton;
 mod check;
+mod counter;
 mod fault;
 mod game;
 mod input;
 pub mod laws;
+mod means;
 mod measure;
 mod output;
 mod parts;
 mod printing;
 mod program;
+mod refute;
 mod replay;
+mod small;
 mod solution;
 mod solve;
 mod solver;
@@ -25,5 +30,7 @@ pub use fault::{CliFault, exit_code, write_fault};
 pub use input::{MOST_BYTES, read_input};
 pub use parts::part_texts;
 pub use pg_cli_words::Command;
-pub use program::{answer, check_texts, replay_texts, run_by, verify_texts};
-pub use solver::{Maps, Solver};
+pub use program::{
+    answer, check_texts, means_texts, refute_texts, replay_texts, run_by, verify_texts,
+};
+pub use solver::{Maps, Proposal, Solver, Untranslated};

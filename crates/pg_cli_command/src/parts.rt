@@ -21,7 +21,8 @@ fn part(input: &[u8]) -> Option<(&[u8], &[u8])>
     Some((&input[..place + 1], &input[place + SEPARATOR.len()..]))
 }
 
-/// The two texts of an input, each by itself. Refuses `NoSeparator` where no line `--` parts them, and `OutOfMemory`.
+/// Separates the two texts of an input. Fails with `NoSeparator` if there is no line `--` between two texts, and with
+/// `OutOfMemory`.
 pub fn part_texts(alloc: Global, input: &[u8]) -> Result<(Vec<u8>, Vec<u8>), CliFault>
     ensures parted { IfOk result (λ texts. IsParted input.now texts.0.items texts.1.items) }
     ensures refused { IfErr result (λ fault. (fault ≡ CliFault.OutOfMemory)

@@ -7,18 +7,25 @@ ghost use Rattle.pg_cli_command.specs.Parts.{AreApart};
 ghost use Rattle.pg_cli_command.specs.Measuring.{IsMeasured};
 ghost use Rattle.pg_cli_command.specs.Checking.{IsChecked, RefusesCheck};
 ghost use Rattle.pg_cli_command.specs.Replaying.{IsReplayed, RefusesReplay};
+ghost use Rattle.pg_cli_command.specs.Refuting.{IsRefuted, RefusesRefute};
 ghost use Rattle.pg_cli_command.specs.Verifying.{IsVerified, RefusesVerify};
+ghost use Rattle.pg_cli_command.specs.Meaning.{IsMeant, RefusesMeans};
 ghost use Rattle.pg_cli_command.specs.Answers.{Answers};
 ghost use Rattle.pg_cli_words.specs.Commands.{workers_of};
 
+use crate::automaton::automaton;
 use crate::check::check;
+use crate::counter::synth_counter;
 use crate::fault::CliFault;
 use crate::game::game;
 use crate::input::{MOST_BYTES, read_input};
+use crate::means::means;
 use crate::measure::measure;
 use crate::parts::Texts;
 use crate::printing::print;
+use crate::refute::refute;
 use crate::replay::replay;
+use crate::small::synth_small;
 use crate::solve::{solve, solve_any};
 use crate::solver::Solver;
 use crate::synth::synth;
@@ -27,8 +34,29 @@ use pg_cli_words::Command;
 use std::alloc::Global;
 use std::io::{Read, Write};
 
-/// Writes the answer to a text, and nothing else: what `run_by` does once it has read its input. Refuses what `run_by` does
-/// from `NoSeparator` on, in the same order; never `Read` and never `InputTooLong`.
+/// Writes what `verify` prints for two texts in one input, of a controller or of a circuit that plays the environment.
+fn write_look<F: Solver, W: Write>(
+    alloc: Global,
+    text: Vec<u8>,
+    by_place: bool,
+    environment: bool,
+    solver: &mut F,
+    writer: &mut W,
+) -> Result<(), CliFault>
+    requires limit { length text.items ≤ MOST_BYTES }
+    ensures answer { (workers : ℕ) → Answers (F.finds solver.old) (Command.Verify workers by_place environment) text.items
+        (W.contents writer.old) (W.contents writer.new) result }
+    ensures unread { result ≢ Err CliFault.Read }
+    ensures untouched { IfErr result (λ fault. fault ≢ CliFault.Write → writer.new ≡ writer.old) }
+{
+    if environment {
+        return print(refute(alloc, Texts::Joined(text), by_place, solver), writer);
+    }
+    print(verify(alloc, Texts::Joined(text), by_place, solver), writer)
+}
+
+/// Writes the answer to a text, and nothing else, as `run_by` does after it has read its input. It fails as `run_by`
+/// does from `NoSeparator` on, in the same order, and never with `Read` or `InputTooLong`.
 pub fn answer<F: Solver, W: Write>(
     alloc: Global,
     command: Command,
@@ -51,17 +79,22 @@ pub fn answer<F: Solver, W: Write>(
         Command::SolveAny { .. } => print(solve_any(alloc, text, solver), writer),
         Command::Check => print(check(alloc, Texts::Joined(text)), writer),
         Command::Replay => print(replay(alloc, Texts::Joined(text)), writer),
+        Command::Automaton => print(automaton(alloc, text, solver), writer),
+        Command::Means => print(means(alloc, Texts::Joined(text)), writer),
         Command::Game => print(game(alloc, text), writer),
         Command::Synth { .. } => print(synth(alloc, text, solver), writer),
-        Command::Verify { by_place, .. } => print(
-            verify(alloc, Texts::Joined(text), by_place, solver),
-            writer,
-        ),
+        Command::SynthSmall { .. } => print(synth_small(alloc, text, solver), writer),
+        Command::SynthCounter { .. } => print(synth_counter(alloc, text, solver), writer),
+        Command::Verify {
+            by_place,
+            environment,
+            ..
+        } => write_look(alloc, text, by_place, environment, solver, writer),
     }
 }
 
-/// What `check` prints of a game and a solution of it in two texts, which nothing has to part. Refuses `Text`, the first text's fault
-/// before the second's, and `OutOfMemory`.
+/// Returns what `check` prints for a game and a solution of it, given as two texts; they need no line `--`. Fails with
+/// `Text`, for the first text before the second, and with `OutOfMemory`.
 pub fn check_texts(alloc: Global, first: Vec<u8>, second: Vec<u8>) -> Result<Vec<u8>, CliFault>
     ensures answer { IfOk result (λ output. IsChecked (AreApart first.items second.items) output.items) }
     ensures refused { IfErr result (λ fault.
@@ -70,14 +103,15 @@ pub fn check_texts(alloc: Global, first: Vec<u8>, second: Vec<u8>) -> Result<Vec
     let mut output = Vec::new(alloc);
     match print(check(alloc, Texts::Apart(first, second)), &mut output) {
         Ok(()) => Ok(output),
-        // A write to memory fails for want of it alone.
+        // A write to memory fails only if it runs out.
         Err(CliFault::Write) => Err(CliFault::OutOfMemory),
         Err(fault) => Err(fault),
     }
 }
 
-/// What `verify` prints of an automaton and a circuit in two texts, which nothing has to part. Refuses `Hoa` for the first text, `Circuit`
-/// for the second, `Tie`, `Netlist`, `Verify` and `Synth` for what is too large, `Undecided`, and `OutOfMemory`.
+/// Returns what `verify` prints for an automaton and a circuit, given as two texts; they need no line `--`. Fails with
+/// `Hoa` for the first text, `Circuit` for the second, `Tie`, `Netlist`, `Verify` and `Synth` for a product or game
+/// that is too large, `Undecided`, and `OutOfMemory`.
 pub fn verify_texts<F: Solver>(
     alloc: Global,
     by_place: bool,
@@ -101,8 +135,50 @@ pub fn verify_texts<F: Solver>(
     }
 }
 
-/// Writes what `replay` prints of a game and a script for it in two texts, which nothing has to part. Refuses `Text`, `Script`, `World`
-/// and `Write`, in this order, and `OutOfMemory`. After another fault than `Write` nothing was written.
+/// Returns what `verify --environment` prints for an automaton and a circuit that plays the environment, given as two texts. Fails as
+/// `verify_texts` does, and with `Hearing` for an output that depends on an input of the same step.
+pub fn refute_texts<F: Solver>(
+    alloc: Global,
+    by_place: bool,
+    first: Vec<u8>,
+    second: Vec<u8>,
+    solver: &mut F,
+) -> Result<Vec<u8>, CliFault>
+    ensures answer { IfOk result (λ output. IsRefuted (AreApart first.items second.items) by_place output.items) }
+    ensures refused { IfErr result (λ fault. (fault ≡ CliFault.OutOfMemory)
+        ⊎ RefusesRefute (F.finds solver.old) (AreApart first.items second.items) by_place fault) }
+{
+    let mut output = Vec::new(alloc);
+    match print(
+        refute(alloc, Texts::Apart(first, second), by_place, solver),
+        &mut output,
+    ) {
+        Ok(()) => Ok(output),
+        // A write to memory fails only if it runs out.
+        Err(CliFault::Write) => Err(CliFault::OutOfMemory),
+        Err(fault) => Err(fault),
+    }
+}
+
+/// Returns what `means` prints for an automaton and a formula, given as two texts; they need no line `--`. Fails with `Hoa` for the first
+/// text, `Formula` for the second, `TooManyPropositions`, `Means`, and `OutOfMemory`.
+pub fn means_texts(alloc: Global, first: Vec<u8>, second: Vec<u8>) -> Result<Vec<u8>, CliFault>
+    ensures answer { IfOk result (λ output. IsMeant (AreApart first.items second.items) output.items) }
+    ensures refused { IfErr result (λ fault.
+        (fault ≡ CliFault.OutOfMemory) ⊎ RefusesMeans (AreApart first.items second.items) fault) }
+{
+    let mut output = Vec::new(alloc);
+    match print(means(alloc, Texts::Apart(first, second)), &mut output) {
+        Ok(()) => Ok(output),
+        // A write to memory fails only if it runs out.
+        Err(CliFault::Write) => Err(CliFault::OutOfMemory),
+        Err(fault) => Err(fault),
+    }
+}
+
+/// Writes what `replay` prints for a game and a script, given as two texts; they need no line `--`. Fails with `Text`,
+/// `Script`, `World` and `Write`, in this order, and with `OutOfMemory`. After a fault other than `Write` nothing was
+/// written.
 pub fn replay_texts<W: Write>(
     alloc: Global,
     first: Vec<u8>,
@@ -118,17 +194,19 @@ pub fn replay_texts<W: Write>(
     print(replay(alloc, Texts::Apart(first, second)), writer)
 }
 
-/// Reads the whole input, and writes the answer to it and nothing else. Hand it a buffered writer, and flush that. Games are
-/// solved by the solver; a command that solves nothing leaves it alone. How many workers the command says is of no account.
+/// Reads the whole input, and writes the answer to it and nothing else. Pass a buffered writer, and flush it
+/// afterwards. The solver solves the games; a command that solves nothing doesn't use it. The number of workers in the
+/// command has no effect.
 ///
-/// Refuses, in this order: `Read`; `InputTooLong` for more than 268,435,456 bytes, of which it reads the first one over
-/// the limit at most; `NoSeparator` where two texts are wanted and no line `--` parts them; `Text` for a text that
-/// doesn't spell what it has to, the first text's fault before the second's, `Script` for a second text that spells no
-/// script for the game, or `Hoa` for one that spells no automaton; `Undecided`, of `solve` and `synth`; `World`, of `replay`
-/// alone, at the first event that is refused; `Synth`, of `game` and `synth`, for an automaton whose game is too large;
-/// `Aiger`, of `synth` alone, for a controller whose circuit is; `Write`, after which nothing is said of how much went out.
-/// `OutOfMemory` may come at any growth. Nothing is written before the work is done, so after another fault than `Write`
-/// nothing was written.
+/// It returns the first of these faults. `Read`. `InputTooLong`: there are more than 268,435,456 bytes; it reads at
+/// most the first one over the limit. `NoSeparator`: the command reads two texts, and there is no line `--` between
+/// them. `Text`, for a game or a solution, the first text's fault before the second's; `Script`, for a second text that
+/// is no script for the game; `Hoa`, for an automaton; for `verify`, then `Circuit`, `Tie`, `Netlist` and `Verify`; `Formula`, for a
+/// formula; then, for `means`, `TooManyPropositions` and `Means`, and for `automaton` `Untranslated`, `Means` and `Unshown`.
+/// `Undecided`, from `solve`, `synth` and `verify`. `World`, from `replay`: the first event that the world refuses.
+/// `Synth`, from `game`, `synth` and `verify`: the game of the automaton is too large. `Aiger`, from `synth`: the
+/// circuit of the controller is too large. `Write`: part of the answer may have been written. `OutOfMemory` can come at
+/// any point. Nothing is written before the work is done, so after a fault other than `Write` nothing was written.
 pub fn run_by<F: Solver, R: Read, W: Write>(
     alloc: Global,
     command: Command,

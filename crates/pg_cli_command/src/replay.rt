@@ -54,7 +54,7 @@ pub(crate) fn replay(alloc: Global, texts: Texts) -> Result<World, CliFault>
     let (game, script) = scripted(alloc, &texts)?;
     drop(texts);
     laws::never_above();
-    // A script's cut is one of the game's vertices, so that only memory can be wanting.
+    // A script's cut fits the game, so this fails only if memory runs out.
     let Ok(mut world) = World::new(alloc, game, script.cut) else {
         return Err(CliFault::OutOfMemory);
     };

@@ -2,6 +2,8 @@
 
 ghost use Rattle.std.specs.Prelude.{◌≡◌, Some, IfOk, IfErr, OnOk};
 ghost use Rattle.std.specs.Io.KnownBytes.{Appends};
+ghost use Rattle.pg_hoa_automaton.specs.Automata.{IsAutomaton};
+ghost use Rattle.pg_hoa.specs.AutomatonText.{Spelt};
 ghost use Rattle.pg_cli_command.specs.Synthesising.{IsSynthesised, RefusesSynth};
 ghost use Rattle.pg_cli_command.specs.Mirrors.Synthesised.{Fits, outcome_text};
 ghost use Rattle.pg_cli_command.specs.Mirrors.Working.{ShowsWhat, Fails};
@@ -17,7 +19,7 @@ use std::alloc::Global;
 use std::io::Write;
 
 /// Writes that there is a controller, and its circuit.
-fn write_realized<W: Write>(
+pub(crate) fn write_realized<W: Write>(
     circuit: &Circuit,
     automaton: &Automaton,
     writer: &mut W,
@@ -33,8 +35,8 @@ fn write_realized<W: Write>(
 /// An automaton, and a circuit under which each of its runs is accepted, where there is one.
 #[derive(Drop)]
 pub(crate) struct Synthesised {
-    automaton: Automaton,
-    circuit: Option<Circuit>,
+    pub automaton: Automaton,
+    pub circuit: Option<Circuit>,
 }
 
 impl Answer for Synthesised {
@@ -61,6 +63,8 @@ pub(crate) fn synth<F: Solver>(
     ensures whole { IfOk result ⟦<Synthesised as Answer>⟧.is_whole }
     ensures answer { IfOk result
         (ShowsWhat (IsSynthesised (F.finds solver.old) text.items) ⟦<Synthesised as Answer>⟧.shows) }
+    ensures spelt { IfOk result (λ found. Spelt text.items found.automaton) }
+    ensures automaton { IfOk result (λ found. IsAutomaton found.automaton) }
     ensures refused { IfErr result (Fails (RefusesSynth (F.finds solver.old) text.items)) }
 {
     let automaton = read_automaton(alloc, &text)?;

@@ -6,7 +6,7 @@ ghost use Rattle.std.specs.Io.KnownBytes.{Appends};
 ghost use Rattle.pg_hoa_automaton.specs.Formulas.{Formula};
 ghost use Rattle.pg_hoa_automaton.specs.Shapes.{FitsShape};
 ghost use Rattle.pg_synth.specs.Letters.{inputs, outputs};
-ghost use Rattle.pg_aiger_netlist.specs.Netlists.{IsAcyclic};
+ghost use Rattle.pg_verify.specs.Reached.{HasTooManyStates};
 ghost use Rattle.pg_verify.specs.Verdicts.{Says};
 ghost use Rattle.pg_cli_command.specs.Verifying.{bit_of, bit_text, letter_line, letter_lines, verdict_text, IsVerified, RefusesVerify};
 ghost use Rattle.pg_cli_command.specs.Mirrors.Parting.{parting_of};
@@ -63,7 +63,7 @@ fn write_letter<W: Write>(
 }
 
 /// Writes the lines of input letters.
-fn write_letters<W: Write>(
+pub(crate) fn write_letters<W: Write>(
     writer: &mut W,
     given: &[u32],
     tied: &[u32],
@@ -126,13 +126,15 @@ pub(crate) fn verdict_on<F: Solver>(
     netlist: &Netlist,
     solver: &mut F,
 ) -> Result<Verdict, CliFault>
-    requires acyclic { IsAcyclic netlist.now }
     requires inputs { length netlist.now.inputs ≡ inputs automaton.now.controllable }
     requires outputs { length netlist.now.outputs ≡ outputs automaton.now.controllable }
     ensures says { IfOk result (λ verdict. (condition : Formula) → FitsShape condition automaton.now.sets automaton.now.shape
         → Says automaton.now condition netlist.now verdict) }
-    ensures refused { IfErr result (IsUnlooked (F.finds solver.old)) }
+    ensures within { OnOk result (¬ HasTooManyStates automaton.now netlist.now) }
+    ensures refused { IfErr result (IsUnlooked (F.finds solver.old) automaton.now netlist.now) }
 {
+    // asked for what its contract says of the circuit
+    let _latches = netlist.latches();
     let product = product_of(alloc, automaton, netlist)?;
     let made = game_of(alloc, &product)?;
     let solution = any_solution_of(alloc, &made.game, solver)?;

@@ -1,23 +1,23 @@
-//! What the answers say of who wins: laws over the definitions. Their functions take no memory and do nothing.
+//! What the answers say about who wins. Each function states a law in its contract, and does nothing.
 
 ghost use Rattle.pg_cli_command.specs.Winners.{MeasuresTellWinners, NoneUndecided, GamesHaveAnswers};
 
-/// A list that `measure` prints says that Even wins from the vertex, and a `T` that Odd does.
+/// If `measure` prints a list, Even wins from the vertex, and if it prints `T`, Odd does.
 pub fn measures_tell_winners()
     ensures { MeasuresTellWinners }
 {
     pg_check_determined::laws::least_tells_winners();
 }
 
-/// No vertex is undecided, so neither `solve` nor `synth` is refused with `Undecided` where the least progress measures are
-/// found.
+/// If the maps are the least progress measures, no vertex is undecided, so neither `solve` nor `synth` fails with
+/// `Undecided`.
 pub fn none_undecided()
     ensures { NoneUndecided }
 {
     pg_check_determined::laws::never_undecided();
 }
 
-/// An input that spells a game has an answer of `measure` and one of `solve`.
+/// If an input spells a game, `measure` and `solve` have an answer to it.
 pub fn games_have_answers()
     ensures { GamesHaveAnswers }
 {

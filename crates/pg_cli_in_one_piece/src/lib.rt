@@ -1,14 +1,70 @@
 //! The method of solving in one piece, in this process.
 #![tactic(auto)]
 
+use pg_aiger::Gate;
 use pg_arena::Game;
-use pg_cli_command::{Maps, Solver};
+use pg_cli_command::{Maps, Proposal, Solver, Untranslated};
+use pg_hoa::Automaton;
+use pg_ltl::Formula;
+use pg_search::{propose, propose_measure};
 use pg_solver::Found;
+use pg_translate::TranslateFault;
 use std::alloc::{AllocError, Global};
 
 /// Has maps of a game and of its dual proposed and certified.
 #[derive(Clone, Copy)]
 pub struct InOnePiece;
+
+/// How many propositions of an automaton the controller doesn't set.
+fn inputs_of(automaton: &Automaton) -> u32 {
+    let mut inputs: u32 = 0;
+    for a in 0..automaton.propositions() {
+        if !automaton.controllable(a) {
+            inputs = inputs.saturating_add(1);
+        }
+    }
+    inputs
+}
+
+/// The gates of a proposal, the first of which has this literal: each has a literal of its own, and its greater literal first.
+fn gates_of(alloc: Global, first: u32, gates: &[pg_small::Gate]) -> Result<Vec<Gate>, AllocError> {
+    let mut list = Vec::new(alloc);
+    let mut lhs = first;
+    for gate in gates {
+        list.push(Gate {
+            lhs,
+            rhs0: gate.left.max(gate.right),
+            rhs1: gate.left.min(gate.right),
+        })?;
+        lhs = lhs.saturating_add(2);
+    }
+    Ok(list)
+}
+
+/// Proposals for an automaton, as circuits are numbered.
+fn all_numbered(
+    alloc: Global,
+    automaton: &Automaton,
+    found: Vec<pg_small::Proposal>,
+) -> Result<Vec<Proposal>, AllocError> {
+    let inputs = inputs_of(automaton);
+    let mut proposals = Vec::new(alloc);
+    for it in found {
+        proposals.push(numbered(alloc, inputs, it)?)?;
+    }
+    Ok(proposals)
+}
+
+/// A proposal for an automaton of so many inputs, as circuits are numbered.
+fn numbered(alloc: Global, inputs: u32, found: pg_small::Proposal) -> Result<Proposal, AllocError> {
+    let latches = u32::try_from(found.latches.len()).unwrap_or(u32::MAX);
+    let first = inputs.saturating_add(latches).saturating_add(1);
+    Ok(Proposal {
+        gates: gates_of(alloc, first.saturating_mul(2), &found.gates)?,
+        nexts: found.latches,
+        outputs: found.outputs,
+    })
+}
 
 impl Solver for InOnePiece {
     type Map = Found;
@@ -20,15 +76,43 @@ impl Solver for InOnePiece {
     ghost measures = { λ _. IsMeasureOf };
 
     fn measure(&mut self, alloc: Global, game: &Game) -> Result<Found, AllocError> {
-        pg_solver::measure(alloc, game)
+        let proposal = propose_measure(alloc, game)?;
+        pg_solver::measure(alloc, game, proposal)
     }
 
     fn solve(&mut self, alloc: Global, game: &Game) -> Result<Maps<Found>, AllocError> {
-        let measures = pg_solver::solve(alloc, game)?;
+        let proposals = propose(alloc, game)?;
+        let measures = pg_solver::solve(alloc, game, proposals)?;
         Ok(Maps {
             of_game: measures.of_game,
             of_dual: measures.of_dual,
         })
+    }
+
+    fn propose(&self, alloc: Global, automaton: &Automaton) -> Result<Vec<Proposal>, AllocError> {
+        all_numbered(alloc, automaton, pg_small::propose(alloc, automaton)?)
+    }
+
+    fn translate(
+        &self,
+        alloc: Global,
+        formula: &Formula,
+        names: &[Vec<u8>],
+    ) -> Result<Vec<u8>, Untranslated> {
+        match pg_translate::propose(alloc, formula, names) {
+            Ok(text) => Ok(text),
+            Err(TranslateFault::OutOfMemory) => Err(Untranslated::OutOfMemory),
+            Err(TranslateFault::TooManyStates) => Err(Untranslated::TooManyStates),
+            Err(TranslateFault::TooManySteps) => Err(Untranslated::TooManySteps),
+        }
+    }
+
+    fn propose_environment(
+        &self,
+        alloc: Global,
+        automaton: &Automaton,
+    ) -> Result<Vec<Proposal>, AllocError> {
+        all_numbered(alloc, automaton, pg_small::propose_moore(alloc, automaton)?)
     }
 
     ghost closed = { λ _ game map m. record {

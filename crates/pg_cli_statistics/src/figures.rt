@@ -1,16 +1,21 @@
 //! Figures of a command's work, which `--stats` asks for: counts and seconds. They are counted beside the answer, and have no part in it.
 
+ghost use Rattle.std.specs.Prelude.{◌≡◌};
+
+use crate::kept::parted;
+use pg_aiger_netlist::Netlist;
+use pg_aiger_reader::{Parts as CircuitParts, read_circuit, tie};
 use pg_arena::{Game, Vertex};
 use pg_cli_words::Command;
-use pg_hoa::read_automaton;
+use pg_hoa::{Automaton, read_automaton};
+use pg_ltl::{FormulaNode, Infix, Prefix, read_formula};
 use pg_synth::game_of;
 use pg_text::read_game;
+use pg_verify::product_if_tied;
+use pg_verify_environment::counterpart;
 use std::alloc::{AllocError, Global};
 use std::io::{self, Write};
 use std::time::{Clock, Duration};
-
-/// What stands between a game and its solution.
-const SEPARATOR: &[u8] = b"\n--\n";
 
 /// How many priorities there may be: one more than the greatest.
 const PRIORITIES: usize = 65_536;
@@ -37,6 +42,13 @@ struct Parts {
     gates: usize,
 }
 
+/// The names of the propositions of each side, as they are printed.
+#[derive(Drop)]
+struct Sides {
+    inputs: Vec<u8>,
+    outputs: Vec<u8>,
+}
+
 /// Tells how long a piece of work took, one after the other.
 #[derive(Clone, Copy)]
 pub struct Watch {
@@ -61,9 +73,14 @@ impl Watch {
 }
 
 /// The figures of a command, those that it has.
-#[derive(Clone, Copy)]
+#[derive(Drop)]
 pub struct Figures {
+    /// The temporal operators of a formula.
+    operators: Option<usize>,
     states: Option<u32>,
+    /// The states of the product of the automaton and a circuit.
+    product: Option<u32>,
+    sides: Option<Sides>,
     size: Option<Size>,
     wins: Option<Wins>,
     parts: Option<Parts>,
@@ -100,18 +117,15 @@ fn size_in(alloc: Global, text: &[u8]) -> Option<Size> {
     size_of(alloc, &game).ok()
 }
 
-/// What is counted of the one text of a command: for two texts in it, the one before the line `--` and the one behind.
+/// What is counted in the one text of a command: if it has two texts, the one before the line `--` and the one behind.
 fn both_texts(command: Command, text: &[u8]) -> (&[u8], &[u8]) {
-    if !matches!(command, Command::Check | Command::Verify { .. }) {
+    if !matches!(
+        command,
+        Command::Check | Command::Means | Command::Verify { .. }
+    ) {
         return (text, &[]);
     }
-    let place = text
-        .windows(SEPARATOR.len())
-        .position(|window| window == SEPARATOR);
-    match place {
-        Some(place) => (&text[..place + 1], &text[place + 1..]),
-        None => (text, &[]),
-    }
+    parted(text).unwrap_or((text, &[]))
 }
 
 /// How many vertices each player wins by a printed solution.
@@ -141,25 +155,178 @@ fn parts_in(text: &[u8]) -> Option<Parts> {
     Some(Parts { latches, gates })
 }
 
+/// How many states the automaton of a text has, by its header.
+fn states_in(text: &[u8]) -> Option<u32> {
+    let line = text
+        .split(|byte| *byte == b'\n')
+        .find(|line| line.starts_with(b"States: "))?;
+    u32::try_from(number_in(line.split(|byte| *byte == b' ').nth(1))?).ok()
+}
+
+/// Whether a part of a formula is a temporal operator.
+fn is_temporal(node: &FormulaNode) -> bool {
+    matches!(
+        node,
+        FormulaNode::One(Prefix::Next | Prefix::Finally | Prefix::Globally, _)
+            | FormulaNode::Two(
+                Infix::Until | Infix::Release | Infix::Weak | Infix::Strong,
+                _,
+                _
+            )
+    )
+}
+
+/// How many temporal operators the formula of a text has.
+fn operators_in(alloc: Global, text: &[u8]) -> Option<usize> {
+    let (_names, formula) = read_formula(alloc, text).ok()?;
+    Some(
+        formula
+            .nodes
+            .iter()
+            .filter(|node| is_temporal(*node))
+            .count(),
+    )
+}
+
 /// How many measures are top in the text of measures, or a part of it.
 fn tops_in(measures: &[u8]) -> usize {
     measures.iter().filter(|byte| **byte == b'T').count()
 }
 
-/// How many states the input of a command has, and how much there is of its game.
-fn counted(alloc: Global, command: Command, text: &[u8]) -> (Option<u32>, Option<Size>) {
-    match command {
-        Command::Game | Command::Synth { .. } | Command::Verify { .. } => {
-            let Ok(automaton) = read_automaton(alloc, text) else {
-                return (None, None);
-            };
-            let size = match game_of(alloc, &automaton) {
-                Ok(made) => size_of(alloc, &made.game).ok(),
-                Err(_) => None,
-            };
-            (Some(automaton.states()), size)
+/// The names of the propositions that one side sets, each in quotes, with commas between.
+fn side_of(
+    alloc: Global,
+    automaton: &Automaton,
+    is_controller: bool,
+) -> Result<Vec<u8>, AllocError> {
+    let mut names = Vec::new(alloc);
+    for a in 0..automaton.propositions() {
+        if automaton.controllable(a) == is_controller {
+            names.extend_from_slice(if names.is_empty() { b"\"" } else { b", \"" })?;
+            names.extend_from_slice(automaton.proposition(a))?;
+            names.push(b'"')?;
         }
-        _ => (None, size_in(alloc, text)),
+    }
+    if names.is_empty() {
+        names.extend_from_slice(b"none")?;
+    }
+    Ok(names)
+}
+
+/// The names of the propositions of both sides.
+fn sides_of(alloc: Global, automaton: &Automaton) -> Result<Sides, AllocError> {
+    Ok(Sides {
+        inputs: side_of(alloc, automaton, false)?,
+        outputs: side_of(alloc, automaton, true)?,
+    })
+}
+
+/// How much there is of the game of an automaton.
+fn size_of_game(alloc: Global, automaton: &Automaton) -> Option<Size> {
+    let made = game_of(alloc, automaton).ok()?;
+    size_of(alloc, &made.game).ok()
+}
+
+/// The figures of a command's input: a formula, an automaton or a game.
+#[derive(Drop)]
+struct Counted {
+    operators: Option<usize>,
+    states: Option<u32>,
+    product: Option<u32>,
+    sides: Option<Sides>,
+    size: Option<Size>,
+}
+
+/// The product of an automaton and the circuit of a text.
+fn product_in(
+    alloc: Global,
+    automaton: &Automaton,
+    circuit: &[u8],
+    by_place: bool,
+) -> Option<Automaton> {
+    let Ok(parts) = read_circuit(alloc, circuit) else {
+        return None;
+    };
+    let Ok(parts) = tie(alloc, automaton, parts, by_place) else {
+        return None;
+    };
+    let CircuitParts {
+        greatest,
+        inputs,
+        latches,
+        outputs,
+        gates,
+        symbols,
+    } = parts;
+    drop(symbols);
+    let Ok(netlist) = Netlist::new(alloc, greatest, inputs, latches, outputs, gates) else {
+        return None;
+    };
+    product_if_tied(alloc, automaton, &netlist).ok()?
+}
+
+/// The product that a command makes of an automaton and the circuit of a text, if it makes one.
+fn product_of(
+    alloc: Global,
+    command: Command,
+    automaton: &Automaton,
+    circuit: &[u8],
+) -> Option<Automaton> {
+    match command {
+        Command::Verify {
+            by_place,
+            environment: true,
+            ..
+        } => {
+            let twin = counterpart(alloc, automaton).ok()?;
+            product_in(alloc, &twin, circuit, by_place)
+        }
+        Command::Verify { by_place, .. } => product_in(alloc, automaton, circuit, by_place),
+        _ => None,
+    }
+}
+
+impl Counted {
+    /// What is counted of a command's input, in one text or two: of `verify` the game is that of the product.
+    fn of(alloc: Global, command: Command, first: &[u8], second: &[u8]) -> Counted {
+        let mut counted = Counted {
+            operators: None,
+            states: None,
+            product: None,
+            sides: None,
+            size: None,
+        };
+        match command {
+            Command::Automaton => counted.operators = operators_in(alloc, first),
+            Command::Means => {
+                counted.operators = operators_in(alloc, second);
+                counted.states = states_in(first);
+            }
+            Command::Game
+            | Command::Synth { .. }
+            | Command::SynthSmall { .. }
+            | Command::SynthCounter { .. }
+            | Command::Verify { .. } => counted.add_automaton(alloc, command, first, second),
+            _ => counted.size = size_in(alloc, first),
+        }
+        counted
+    }
+
+    /// Counts what the automaton of the first text has.
+    fn add_automaton(&mut self, alloc: Global, command: Command, first: &[u8], second: &[u8]) {
+        let Ok(automaton) = read_automaton(alloc, first) else {
+            return;
+        };
+        self.states = Some(automaton.states());
+        self.sides = sides_of(alloc, &automaton).ok();
+        match product_of(alloc, command, &automaton, second) {
+            Some(product) => {
+                self.product = Some(product.states());
+                self.size = size_of_game(alloc, &product);
+            }
+            None if matches!(command, Command::Verify { .. }) => (),
+            None => self.size = size_of_game(alloc, &automaton),
+        }
     }
 }
 
@@ -175,7 +342,7 @@ impl Figures {
         Figures::of_both(rt, command, first, second, watch)
     }
 
-    /// The same of two texts, of which the first is a game or an automaton.
+    /// The same of two texts.
     pub fn of_both<R: Clock + AllocGlobal>(
         rt: &R,
         command: Command,
@@ -184,14 +351,23 @@ impl Figures {
         mut watch: Watch,
     ) -> Figures {
         let read = watch.lap(rt);
-        let (states, size) = counted(rt.alloc(), command, first);
+        let Counted {
+            operators,
+            states,
+            product,
+            sides,
+            size,
+        } = Counted::of(rt.alloc(), command, first, second);
         let parts = match command {
             Command::Verify { .. } => parts_in(second),
             _ => None,
         };
         watch.lap(rt);
         Figures {
+            operators,
             states,
+            product,
+            sides,
             size,
             wins: None,
             parts,
@@ -207,7 +383,10 @@ impl Figures {
         self.answered = self.watch.lap(rt);
         match command {
             Command::Solve { .. } | Command::SolveAny { .. } => self.wins = Some(wins_in(answer)),
-            Command::Synth { .. } => self.parts = parts_in(answer),
+            Command::Synth { .. } | Command::SynthSmall { .. } | Command::SynthCounter { .. } => {
+                self.parts = parts_in(answer);
+            }
+            Command::Automaton => self.states = states_in(answer),
             Command::Measure { .. } => self.set_tops(tops_in(answer)),
             _ => (),
         }
@@ -234,61 +413,171 @@ impl Figures {
         }
     }
 
-    /// Prints the line.
+    /// Prints them on a line, and the names of the propositions on another one.
     pub fn tell<E: Write>(self, errors: &mut E) {
         let _ = self.write(errors);
     }
 
-    fn write<E: Write>(self, errors: &mut E) -> io::Result<()> {
+    /// Prints them as one JSON object on a line.
+    pub fn tell_json<E: Write>(self, errors: &mut E) {
+        let _ = self.write_json(errors);
+    }
+
+    /// The counts by their names.
+    fn counts(&self) -> [(&'static str, Option<usize>); 10] {
+        let states = self.states.map(|states| states as usize);
+        let (vertices, edges, priorities) = match self.size {
+            Some(size) => (Some(size.vertices), Some(size.edges), Some(size.priorities)),
+            None => (None, None, None),
+        };
+        let (even, odd) = match self.wins {
+            Some(wins) => (Some(wins.even), Some(wins.odd)),
+            None => (None, None),
+        };
+        let (latches, gates) = match self.parts {
+            Some(parts) => (Some(parts.latches), Some(parts.gates)),
+            None => (None, None),
+        };
+        [
+            ("temporal operators", self.operators),
+            ("states", states),
+            (
+                "states of the product",
+                self.product.map(|states| states as usize),
+            ),
+            ("vertices", vertices),
+            ("edges", edges),
+            ("priorities", priorities),
+            ("player 0 wins", even),
+            ("player 1 wins", odd),
+            ("latches", latches),
+            ("gates", gates),
+        ]
+    }
+
+    /// How long each piece of work took, by its name.
+    fn pieces(&self) -> [(&'static str, Option<Duration>); 3] {
+        [
+            ("read", Some(self.read)),
+            ("answered", Some(self.answered)),
+            ("written", self.written),
+        ]
+    }
+
+    fn write<E: Write>(&self, errors: &mut E) -> io::Result<()> {
         write!(errors, "parsolve: stats:")?;
-        if let Some(states) = self.states {
-            write!(errors, " states {states},")?;
+        for (name, count) in self.counts() {
+            if let Some(count) = count {
+                write!(errors, " {name} {count},")?;
+            }
         }
-        if let Some(
-            Size {
-                vertices,
-                edges,
-                priorities,
-            },
-        ) = self.size
-        {
-            write!(
-                errors,
-                " vertices {vertices}, edges {edges}, priorities {priorities},"
-            )?;
+        let mut before = "";
+        for (name, taken) in self.pieces() {
+            if let Some(taken) = taken {
+                write!(errors, "{before} {name} ")?;
+                write_seconds(errors, taken)?;
+                before = " s,";
+            }
         }
-        if let Some(Wins { even, odd }) = self.wins {
-            write!(errors, " player 0 wins {even}, player 1 wins {odd},")?;
+        writeln!(errors, " s")?;
+        match &self.sides {
+            Some(sides) => sides.write(errors),
+            None => Ok(()),
         }
-        if let Some(Parts { latches, gates }) = self.parts {
-            write!(errors, " latches {latches}, gates {gates},")?;
+    }
+
+    fn write_json<E: Write>(&self, errors: &mut E) -> io::Result<()> {
+        let mut before = "{";
+        for (name, count) in self.counts() {
+            if let Some(count) = count {
+                write!(errors, "{before}\"{name}\": {count}")?;
+                before = ", ";
+            }
         }
-        write_seconds(errors, " read", self.read)?;
-        write_seconds(errors, ", answered", self.answered)?;
-        if let Some(written) = self.written {
-            write_seconds(errors, ", written", written)?;
+        for (name, taken) in self.pieces() {
+            if let Some(taken) = taken {
+                write!(errors, "{before}\"{name}\": ")?;
+                write_seconds(errors, taken)?;
+                before = ", ";
+            }
         }
+        errors.write_all(b"}\n")
+    }
+}
+
+impl Sides {
+    fn write<E: Write>(&self, errors: &mut E) -> io::Result<()> {
+        errors.write_all(b"parsolve: stats: inputs ")?;
+        errors.write_all(self.inputs.as_slice())?;
+        errors.write_all(b"; outputs ")?;
+        errors.write_all(self.outputs.as_slice())?;
         writeln!(errors)
     }
 }
 
-/// Writes how long a piece of work took.
-fn write_seconds<E: Write>(errors: &mut E, name: &str, taken: Duration) -> io::Result<()> {
+/// Writes how many seconds a piece of work took.
+fn write_seconds<E: Write>(errors: &mut E, taken: Duration) -> io::Result<()> {
     let (seconds, thousandths) = (taken.as_secs(), taken.subsec_millis());
-    write!(errors, "{name} {seconds}.{thousandths:03} s")
+    write!(errors, "{seconds}.{thousandths:03}")
 }
 
-/// Counts the `T` of what is written through it: in measures, those that are top.
+/// Counts the `T` of what is written through it, if it is to count: in measures, those that are top.
 #[derive(Drop)]
 pub struct CountedTops<W> {
     pub inner: W,
-    pub tops: usize,
+    pub tops: Option<usize>,
+    /// Whether what was written first says yes.
+    is_yes: Option<bool>,
+}
+
+/// The answers that say yes.
+const YES: [&[u8]; 4] = [b"WINS\n", b"ACCEPTED\n", b"REFUTES\n", b"SAME\n"];
+
+impl<W> CountedTops<W> {
+    /// What is written through it isn't counted yet.
+    pub fn new(inner: W) -> CountedTops<W> {
+        CountedTops {
+            inner,
+            tops: None,
+            is_yes: None,
+        }
+    }
+
+    /// Whether the answer is yes: `WINS`, `ACCEPTED`, `REFUTES` or `SAME`.
+    pub fn is_yes(&self) -> bool {
+        self.is_yes == Some(true)
+    }
+
+    /// Sees whether this says yes, if it is the first that is written.
+    fn see(&mut self, begun: &[u8])
+        ensures { self.new.inner ≡ self.old.inner }
+    {
+        if self.is_yes.is_some() {
+            return;
+        }
+        let mut is_yes = false;
+        for word in YES {
+            is_yes = is_yes || begun.starts_with(word);
+        }
+        self.is_yes = Some(is_yes);
+    }
+
+    fn count(&mut self, written: &[u8])
+        ensures { self.new.inner ≡ self.old.inner }
+    {
+        if let Some(tops) = self.tops {
+            self.tops = Some(tops.saturating_add(tops_in(written)));
+        }
+    }
 }
 
 impl<W: Write> Write for CountedTops<W> {
+    ghost contents = { λ w. W.contents w.inner };
+
     fn write(&mut self, buf: &[u8]) -> io::Result<usize> {
+        self.see(buf);
         let written = self.inner.write(buf)?;
-        self.tops = self.tops.saturating_add(tops_in(&buf[..written]));
+        self.count(&buf[..written]);
         Ok(written)
     }
 

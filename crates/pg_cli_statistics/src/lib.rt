@@ -1,9 +1,15 @@
-//! What the program tells on the error stream besides an answer: figures of the work, which `--stats` asks for, and notes on an automaton.
-//! Nothing is promised of it but that it is safe, and the answer doesn't depend on it.
+//! What the program says on the error stream besides an answer or the line of a fault: the figures that `--stats` asks for, and notes.
+//! Nothing is promised about it except that it is safe, and the answer doesn't depend on it.
 #![tactic(auto)]
 
+mod fault_notes;
 mod figures;
+mod headers;
+mod hints;
+mod kept;
 mod notes;
 
+pub use fault_notes::FaultNotes;
 pub use figures::{CountedTops, Figures, Watch};
-pub use notes::Notes;
+pub use kept::Kept;
+pub use notes::{Notes, note_on_words};

@@ -1,7 +1,9 @@
-//! What is to be noted of an automaton, besides the answer.
+//! Notes on an automaton that has an answer, and on the words of a command line.
 
-use pg_cli_words::Command;
+use crate::headers::read_headers;
+use pg_cli_words::{Command, lacks_file};
 use pg_hoa::has_header;
+use std::alloc::Global;
 use std::io::Write;
 
 const UNCONTROLLED: &str =
@@ -10,23 +12,41 @@ const UNCONTROLLED: &str =
 const PLAYERS: &str =
     "parsolve: note: header spot-state-player isn't read: each edge is a step of both";
 
+const ALL_CONTROLLED: &str =
+    "parsolve: note: --outs names every proposition, so the environment sets none";
+
 /// Which notes there are.
 #[derive(Clone, Copy)]
 pub struct Notes {
     is_uncontrolled: bool,
+    is_all_controlled: bool,
     has_players: bool,
 }
 
+/// Whether the controller sets every proposition.
+fn controls_all(alloc: Global, text: &[u8]) -> bool {
+    match read_headers(alloc, text) {
+        Some(read) => !read.controllable.contains(&false),
+        None => false,
+    }
+}
+
 impl Notes {
-    /// The notes on the input of a command: none where it is no automaton.
-    pub fn of(command: Command, text: &[u8]) -> Notes {
+    /// The notes on the input of a command, whose outputs may be named by `--outs` in place of its own header: none where it is no
+    /// automaton.
+    pub fn of(alloc: Global, command: Command, is_by_outs: bool, text: &[u8]) -> Notes {
         let is_automaton = matches!(
             command,
-            Command::Game | Command::Synth { .. } | Command::Verify { .. }
+            Command::Game
+                | Command::Synth { .. }
+                | Command::SynthSmall { .. }
+                | Command::SynthCounter { .. }
+                | Command::Verify { .. }
         );
         Notes {
             is_uncontrolled: is_automaton
                 && matches!(has_header(text, b"controllable-AP"), Ok(false)),
+            is_all_controlled: is_automaton && is_by_outs && controls_all(alloc, text),
             has_players: is_automaton && matches!(has_header(text, b"spot-state-player"), Ok(true)),
         }
     }
@@ -36,8 +56,32 @@ impl Notes {
         if self.is_uncontrolled {
             let _ = writeln!(errors, "{UNCONTROLLED}");
         }
+        if self.is_all_controlled {
+            let _ = writeln!(errors, "{ALL_CONTROLLED}");
+        }
         if self.has_players {
             let _ = writeln!(errors, "{PLAYERS}");
         }
+    }
+}
+
+/// The files of a command that takes two, as its help names them.
+fn files_of(command: Command) -> &'static str {
+    match command {
+        Command::Verify { .. } => "AUTOMATON and CIRCUIT",
+        Command::Means => "AUTOMATON and FORMULA",
+        Command::Replay => "GAME and SCRIPT",
+        _ => "GAME and SOLUTION",
+    }
+}
+
+/// Prints a note on the error stream if a command line that was refused names one file, and its command takes two.
+pub fn note_on_words<E: Write>(alloc: Global, words: &[String], errors: &mut E) {
+    if let Ok(Some(command)) = lacks_file(alloc, words) {
+        let (name, files) = (command.name(), files_of(command));
+        let _ = writeln!(
+            errors,
+            "parsolve: note: {name} takes two files, {files}; `-` is the one on standard input"
+        );
     }
 }

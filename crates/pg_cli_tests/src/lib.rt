@@ -1,4 +1,4 @@
-//! Tests of the commands: workers and links, streams that fail, lines of faults, and the words of the command line.
+//! Tests of the commands: workers and links, streams that fail, lines of faults, circuits that are proposed, and the words of the command line.
 #![tactic(auto)]
 
 #[cfg(test)]
@@ -7,6 +7,8 @@ mod failures;
 mod faults;
 #[cfg(test)]
 mod links;
+#[cfg(test)]
+mod proposals;
 #[cfg(test)]
 mod streams;
 #[cfg(test)]

@@ -59,6 +59,12 @@ fn words_ask_for_any_strategy(rt: HostRuntime) {
 }
 
 #[test]
+fn words_ask_for_a_small_circuit(rt: HostRuntime) {
+    let small = Command::SynthSmall { workers: 2 };
+    assert!(rt; names(rt.alloc(), &["parsolve", "synth", "--small"], small));
+}
+
+#[test]
 fn words_name_the_program_of_the_workers(rt: HostRuntime) {
     let workers = 3;
     for (name, command) in [
@@ -116,5 +122,31 @@ fn words_name_outputs_and_ask_for_figures(rt: HostRuntime) {
         let words = ["parsolve", name, "--outs", "g,h", "--stats"];
         assert!(rt; names_outputs(rt.alloc(), &words, "g,h"), "{name}");
         assert!(rt; names_nothing_more(rt.alloc(), &words[..2]), "{name}");
+    }
+}
+
+/// Whether the words ask for a status that says what the answer is, and for figures as JSON.
+fn asks_for_status_and_json(alloc: Global, words: &[&str]) -> bool {
+    let request = parse_request(alloc, words);
+    matches!(
+        &request,
+        Ok(Request {
+            status: true,
+            json: true,
+            stats: false,
+            ..
+        })
+    )
+}
+
+#[test]
+fn words_ask_for_status_and_json(rt: HostRuntime) {
+    for name in ["check", "verify"] {
+        let words = ["parsolve", name, "--status", "--json"];
+        assert!(rt; asks_for_status_and_json(rt.alloc(), &words), "{name}");
+        assert!(rt;
+            !asks_for_status_and_json(rt.alloc(), &words[..3]),
+            "{name}"
+        );
     }
 }

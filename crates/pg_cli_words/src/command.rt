@@ -1,25 +1,51 @@
 //! The commands.
 
-/// A command that turns an input into an answer. Where it solves a game so many workers do: at most 16.
+/// A command, which turns an input into an answer. A command that solves games has the number of workers, at most 16.
 #[derive(Clone, Copy, Debug, PartialEq, Eq)]
 pub enum Command {
     /// Prints the least progress measure of a game.
-    Measure { workers: u32 },
+    Measure {
+        workers: u32,
+    },
     /// Prints who wins at each vertex of a game, and how.
-    Solve { workers: u32 },
-    /// Prints the same winners, and any strategy that wins.
-    SolveAny { workers: u32 },
-    /// Prints whether a solution of a game is sound, and if not, what speaks against it.
+    Solve {
+        workers: u32,
+    },
+    /// Prints the same winners, and any winning strategy.
+    SolveAny {
+        workers: u32,
+    },
+    /// Prints whether a solution of a game is sound, and if it isn't, the evidence against it.
     Check,
-    /// Prints the world that a script of lifts, deliveries and restarts makes of a game.
+    /// Prints the world of a game after a script of lifts, deliveries and restarts.
     Replay,
+    /// Prints an automaton that accepts exactly the words that satisfy a formula.
+    Automaton,
+    /// Prints whether an automaton accepts exactly the words that satisfy a formula, and if it doesn't, a word on which they differ.
+    Means,
     /// Prints the game of an automaton.
     Game,
     /// Prints whether an automaton has a controller under which each run is accepted, and the circuit of one.
-    Synth { workers: u32 },
-    /// Prints whether an automaton accepts each run of a circuit, and if not, the inputs of a run that it doesn't accept. Inputs and
-    /// outputs go by their names, or by their places.
-    Verify { workers: u32, by_place: bool },
+    Synth {
+        workers: u32,
+    },
+    /// Prints the same with a small circuit.
+    SynthSmall {
+        workers: u32,
+    },
+    /// Prints the same, and if there is no controller, a circuit that plays the environment and under which no run is accepted.
+    SynthCounter {
+        workers: u32,
+    },
+    /// Prints whether an automaton accepts each run of a circuit, and if it doesn't, the inputs of a run that it
+    /// doesn't accept. It matches inputs and outputs to propositions by name, or by their order.
+    /// If `environment` is set, prints whether a circuit that plays the environment refutes the automaton: whether the automaton accepts no
+    /// run of it, and otherwise what the controller does on a run that the automaton accepts.
+    Verify {
+        workers: u32,
+        by_place: bool,
+        environment: bool,
+    },
 }
 
 impl Command {
@@ -27,21 +53,25 @@ impl Command {
     ghost use Rattle.pg_cli_words.specs.declared.command.Command.{Command};
     ghost use Rattle.pg_cli_words.specs.Commands.{command_name, workers_of};
 
-    /// Every command that has a name of its own, in the order of the help, with so many workers where it solves.
-    pub fn all(workers: u32) -> [Command; 7]
+    /// The commands that have names of their own, in the order of the help. Those that solve games have this number of
+    /// workers.
+    pub fn all(workers: u32) -> [Command; 9]
         ensures { result ≡ Command.Measure workers ∷ Command.Solve workers ∷ Command.Check ∷ Command.Replay
-            ∷ Command.Game ∷ Command.Synth workers ∷ Command.Verify workers false ∷ [] }
+            ∷ Command.Automaton ∷ Command.Means ∷ Command.Game ∷ Command.Synth workers ∷ Command.Verify workers false false ∷ [] }
     {
         [
             Command::Measure { workers },
             Command::Solve { workers },
             Command::Check,
             Command::Replay,
+            Command::Automaton,
+            Command::Means,
             Command::Game,
             Command::Synth { workers },
             Command::Verify {
                 workers,
                 by_place: false,
+                environment: false,
             },
         ]
     }
@@ -55,13 +85,16 @@ impl Command {
             Command::Solve { .. } | Command::SolveAny { .. } => "solve",
             Command::Check => "check",
             Command::Replay => "replay",
+            Command::Automaton => "automaton",
+            Command::Means => "means",
             Command::Game => "game",
-            Command::Synth { .. } => "synth",
+            Command::Synth { .. } | Command::SynthSmall { .. } | Command::SynthCounter { .. } =>
+                "synth",
             Command::Verify { .. } => "verify",
         }
     }
 
-    /// How many workers solve for the command; none where it solves nothing.
+    /// The number of workers that solve for the command; None if it solves nothing.
     pub fn workers(self) -> Option<u32>
         ensures { result ≡ workers_of self }
     {
@@ -70,12 +103,18 @@ impl Command {
             | Command::Solve { workers }
             | Command::SolveAny { workers }
             | Command::Synth { workers }
+            | Command::SynthSmall { workers }
+            | Command::SynthCounter { workers }
             | Command::Verify { workers, .. } => Some(workers),
-            Command::Check | Command::Replay | Command::Game => None,
+            Command::Check
+            | Command::Replay
+            | Command::Automaton
+            | Command::Means
+            | Command::Game => None,
         }
     }
 
-    /// The command with this name, with so many workers if it solves.
+    /// The command with this name, with this number of workers if it solves games; None if there is no such command.
     pub fn named(name: &str, workers: u32) -> Option<Command>
         ensures known { IfSome result (λ command. name.now ≡ command_name command) }
         ensures workers { IfSome result (λ command. IfSome (workers_of command) (λ n. n ≡ workers)) }

@@ -7,6 +7,6 @@ mod outcome;
 mod words;
 
 pub use command::Command;
-pub use files::{Parted, STANDARD_INPUT, part_words};
+pub use files::{Parted, STANDARD_INPUT, lacks_file, part_words};
 pub use outcome::{Outcome, read_words};
 pub use words::{Invocation, Request, parse_request, parse_words};

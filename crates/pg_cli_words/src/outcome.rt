@@ -1,4 +1,4 @@
-//! What is told in place of a line that could be obeyed.
+//! Command lines that ask for no work, and what becomes of them.
 
 ghost use Rattle.std.specs.Prelude.{map, IfOk};
 ghost use Rattle.pg_cli_words.specs.Words.{AsksFor};
@@ -7,16 +7,16 @@ use crate::words::{Request, parse_request};
 use clap::Error;
 use clap::error::ErrorKind;
 
-/// What was told of words that ask for nothing.
+/// The outcome of words that ask for no work.
 #[derive(Clone, Copy, Debug, PartialEq, Eq)]
 pub enum Outcome {
-    /// The help or the version that they ask for.
+    /// They ask for the help or the version, and it was printed.
     Asked,
-    /// That they aren't those of a command line.
+    /// They are no command line, and the reason was printed.
     Refused,
-    /// Nothing: what they ask for couldn't be written.
+    /// They ask for the help or the version, and standard output couldn't be written.
     Unwritten,
-    /// Nothing: the allocator refused a growth.
+    /// Memory ran out, and nothing was printed.
     OutOfMemory,
 }
 
@@ -35,8 +35,8 @@ fn tell(rt: &(impl Print + Eprint), error: &Error) -> Outcome {
     }
 }
 
-/// Reads a command line as `parse_request` does. Where it asks for nothing, what is to be told is printed: a fault on the error
-/// stream, the help or the version on standard output.
+/// Reads a command line as `parse_request` does. If it asks for no work, this prints the fault on the error stream, or
+/// the help or the version on standard output.
 pub fn read_words(
     rt: &(impl Print + Eprint + AllocGlobal),
     words: &[&str],

@@ -12,71 +12,91 @@ use std::alloc::Global;
 /// What a command line asks for.
 #[derive(Debug, Drop)]
 pub enum Invocation {
-    /// A command, which writes standard output; and the program to start as each of its workers, where they aren't to be in
-    /// this process.
+    /// A command, and the program to start as each of its workers; without a program the workers run in this process.
     Run(Command, Option<String>),
-    /// A worker that serves at this port of 127.0.0.1.
+    /// A worker that connects to this port of 127.0.0.1.
     Work(u16),
 }
 
-/// A command line: what it asks for, and what goes with that.
+/// A command line: what it asks for, and the options that leave the answer as it is.
 #[derive(Debug, Drop)]
 pub struct Request {
     pub line: Invocation,
-    /// The names of the outputs, with commas between, where they are given in place of a header.
+    /// The names of the outputs, separated by commas, if `--outs` gives them in place of a header.
     pub outs: Option<String>,
-    /// Whether figures are to be told behind the answer.
+    /// Whether to print figures after the answer.
     pub stats: bool,
+    /// Whether to print them as one JSON object; then they are printed whether or not `stats` is set.
+    pub json: bool,
+    /// Whether the exit status says if the answer is yes.
+    pub status: bool,
 }
 
 const NAME: &str = "parsolve";
 
 const VERSION: &str = "0.2.0";
 
-/// The option that says how many workers solve.
+/// The option for the number of workers.
 const WORKERS: &str = "workers";
 
-/// The option that says which program is started as each worker.
+/// The option for the program to start as each worker.
 const APART: &str = "apart";
 
-/// The option that asks for any strategy that wins.
+/// The option for any winning strategy.
 const ANY: &str = "any";
 
-/// The option that takes inputs and outputs of a circuit by their places.
+/// The option that asks for a small circuit.
+const SMALL: &str = "small";
+
+/// The option that asks for a circuit that plays the environment.
+const COUNTER: &str = "counter";
+
+/// The option that matches inputs and outputs of a circuit by their order.
 const BY_PLACE: &str = "by-place";
+
+/// The option that asks about a circuit that plays the environment.
+const ENVIRONMENT: &str = "environment";
 
 /// The option that names the outputs of an automaton.
 const OUTS: &str = "outs";
 
-/// The option that asks for figures.
+/// The option for figures.
 const STATS: &str = "stats";
 
-/// The word that asks for a worker.
+/// The option for figures in JSON.
+const JSON: &str = "json";
+
+/// The option for an exit status that depends on the answer.
+const STATUS: &str = "status";
+
+/// The word for a worker.
 const WORKER: &str = "worker";
 
-/// The option that says at which port a worker serves.
+/// The option for the port that a worker connects to.
 const PORT: &str = "port";
 
-/// The most workers that may be asked for.
+/// The greatest number of workers.
 const MOST_WORKERS: u8 = 16;
 
 const ABOUT: &str = "Solves parity games; the answers are proved";
 
 const MORE: &str = "\
-Each command reads the files that it is given (`-` is standard input), or standard input where it is given none, and writes
-standard output. Games and solutions are in the format of PGSolver, automata in HOA v1, circuits in AIGER.
+Each command reads the files that you name (`-` is standard input), or standard input if you name none, and writes its
+answer to standard output. Games and solutions are in PGSolver's format, formulas in the syntax of Spot, automata in HOA v1,
+circuits in AIGER.
 
 Exit status:
-  0  an answer was printed
-  1  the input was refused, or memory ran out, or reading or writing failed, or no port was left for workers; the error
-     stream has one line that says why
-  2  the command line names no command, or has a word that doesn't belong there
-  3  undecided: the measures of the game and of its dual are both top at the vertex that is named; only workers that are
-     other programs than this one can bring that about
+  0  the command printed an answer
+  1  the command refused the input, ran out of memory, could not read or write, or found no free port for its workers;
+     a line on the error stream says why
+  2  the command line names no command, or has a word that does not belong there
+  3  undecided: the measures of the game and of its dual are both top at the vertex that the error stream names; this
+     happens only if the workers are programs other than this one
+  10  with `--status`, the command printed an answer other than `WINS`, `ACCEPTED`, `REFUTES` or `SAME`
 
 Example: parsolve solve examples/two.pg";
 
-/// What the help says of a command: a line in the list of commands, how it is called, and the text behind that.
+/// The help of a command: its line in the list of commands, its usage, and the text after the options.
 #[derive(Clone, Copy)]
 struct Help {
     about: &'static str,
@@ -88,11 +108,11 @@ const MEASURE: Help = Help {
     about: "Prints the least progress measure of a game",
     usage: "parsolve measure [OPTIONS] [GAME]",
     more: "\
-Input: a parity game in the format of PGSolver, as `parity 1; 0 1 0 0,1; 1 2 1 0;`, by `parsolve measure GAME` from a
-file, and else from standard input
-Output: a line `IDENTIFIER MEASURE;` for each vertex by rising identifier. A measure is a list of numbers with commas,
-one for each odd priority that occurs, the greatest first (`-` where none occurs), or `T` for top. Player 0 wins from a
-vertex with a list, and player 1 from one with `T`.
+Input: a parity game in PGSolver's format, such as `parity 1; 0 1 0 0,1; 1 2 1 0;`, from the file GAME or from standard
+input
+Output: a line `IDENTIFIER MEASURE;` for each vertex, in rising order of identifiers. A measure is a list of numbers
+separated by commas, one for each odd priority of the game, the greatest priority first (`-` if there is none), or `T`
+for top. Player 0 wins from a vertex with a list, and player 1 from one with `T`.
 
 Example: printf 'parity 1; 0 1 0 0,1; 1 2 1 0;' | parsolve measure
 prints `0 1;` and `1 0;`, each on a line.",
@@ -102,11 +122,11 @@ const SOLVE: Help = Help {
     about: "Prints the winner of each vertex of a game, and a winning strategy",
     usage: "parsolve solve [OPTIONS] [GAME]",
     more: "\
-Input: a parity game in the format of PGSolver, as `parity 1; 0 1 0 0,1; 1 2 1 0;`, by `parsolve solve GAME` from a
-file, and else from standard input
-Output: `paritysol N;` with the greatest identifier, and a line `IDENTIFIER WINNER STRATEGY;` for each vertex by rising
-identifier. The strategy is the successor that the winner goes to, left out where the other player owns the vertex. It is
-that of the least progress measures; with `--any` it is any that wins, in less time.
+Input: a parity game in PGSolver's format, such as `parity 1; 0 1 0 0,1; 1 2 1 0;`, from the file GAME or from standard
+input
+Output: `paritysol N;` with the greatest identifier, and a line `IDENTIFIER WINNER STRATEGY;` for each vertex, in rising
+order of identifiers. STRATEGY is the successor that the winner moves to; it is left out if the other player owns the
+vertex. The least progress measures determine the strategy. With `--any` it is any winning strategy, found in less time.
 
 Example: printf 'parity 1; 0 1 0 0,1; 1 2 1 0;' | parsolve solve
 prints `paritysol 1;`, `0 0 1;` and `1 0;`, each on a line.",
@@ -116,45 +136,78 @@ const CHECK: Help = Help {
     about: "Prints whether a solution of a game is sound",
     usage: "parsolve check [OPTIONS] [GAME SOLUTION]",
     more: "\
-Input: a parity game and a solution of it, both in the format of PGSolver, by `parsolve check GAME SOLUTION` from two files,
-and else from standard input, with a line `--` between
-Output: `WINS` if each printed winner wins by the printed strategy; `LEAVES V W` if the edge from V to W, which follows
-the solution, leads to a vertex of the other winner; `CYCLE P V,V,..` if these vertices are a cycle that follows the
-solution and whose greatest priority P favours the loser.
+Input: a parity game and a solution of it, both in PGSolver's format, from the files GAME and SOLUTION, or from standard
+input with a line `--` between them
+Output: `WINS` if each winner in the solution wins by the strategy in the solution; `LEAVES V W` if the edge from V to W,
+which follows the solution, leads to a vertex of the other winner; `CYCLE P V,V,..` if these vertices form a cycle that
+follows the solution and whose greatest priority P favours the loser. With `--status` the exit status is 0 for `WINS`,
+and 10 for `LEAVES` and `CYCLE`.
 
-Example: printf 'parity 1; 0 1 0 0,1; 1 2 1 0;\n--\n0 0 1; 1 0;' | parsolve check
+Example: printf 'parity 1; 0 1 0 0,1; 1 2 1 0;\\n--\\n0 0 1; 1 0;' | parsolve check
 prints `WINS`.",
 };
 
 const REPLAY: Help = Help {
-    about: "Prints what workers make of a game under a script of lifts, deliveries and restarts",
+    about: "Prints what workers compute for a game under a script of lifts, deliveries and restarts",
     usage: "parsolve replay [GAME SCRIPT]",
     more: "\
-Input: a parity game in the format of PGSolver and a script, by `parsolve replay GAME SCRIPT` from two files, and else from
-standard input, with a line `--` between. The script:
-  workers N;      the workers 1 to N, at most 16; replica 0 is the coordinator
-  cut A,B,..;     may be left out: the worker of each vertex, by rising identifier; else they get runs of like length
-  lift W ID;      the worker W lifts its vertex ID, which makes an update if the measure rises
-  deliver R N;    the replica R takes the update N; updates are numbered from 0 as they are made
-  restart W;      the worker W forgets all
-  central ID;     the coordinator lifts the vertex ID
-Output: a line `update N ID MEASURE;` for each update; then for each replica `replica R taken N,N,..;` (`-` for none),
-what it took since its last restart, and its map as `measure` prints one. An event that can't be is refused.
+Input: a parity game in PGSolver's format and a script, from the files GAME and SCRIPT, or from standard input with a line
+`--` between them. The script:
+  workers N;      there are workers 1 to N, at most 16; replica 0 is the coordinator
+  cut A,B,..;     optional: the worker of each vertex, in rising order of identifiers; without this line the workers own
+                  runs of about equal length
+  lift W ID;      worker W lifts its vertex ID; if the measure rises, that makes an update
+  deliver R N;    replica R takes update N; updates are numbered from 0 in the order in which they are made
+  restart W;      worker W forgets everything
+  central ID;     the coordinator lifts vertex ID
+Output: a line `update N ID MEASURE;` for each update; then for each replica a line `replica R taken N,N,..;` with the
+updates that it has taken since its last restart (`-` for none), and its map as `measure` prints maps. An event that is
+impossible is refused.
 
-Example: printf 'parity 1; 0 1 0 0,1; 1 2 1 0;\n--\nworkers 1; lift 1 0; deliver 0 0;' | parsolve replay
+Example: printf 'parity 1; 0 1 0 0,1; 1 2 1 0;\\n--\\nworkers 1; lift 1 0; deliver 0 0;' | parsolve replay
 prints `update 0 0 1;`, `replica 0 taken 0;`, `0 1;`, `1 0;`, `replica 1 taken 0;`, `0 1;` and `1 0;`, each on a line.",
+};
+
+const AUTOMATON: Help = Help {
+    about: "Prints an automaton that accepts exactly the words that satisfy a formula",
+    usage: "parsolve automaton [OPTIONS] [FORMULA]",
+    more: "\
+Input: a formula of linear temporal logic, such as `G (request -> F grant)`, from the file FORMULA or from standard input.
+It has the operators of Spot: `!` `&` `|` `->` `<->` `xor`, `X` `F` `G` `U` `R` `W` `M`. An input of several formulas, each
+with a `;` behind it, says that all of them hold.
+Output: a deterministic automaton in HOA v1 with a parity condition. It accepts exactly the words that satisfy the formula:
+the program looks at it before it prints it, as `means` does. With `--outs` it has a header `controllable-AP`, which lists
+the propositions that the controller sets, so that `game`, `synth` and `verify` read it.
+
+Example: printf 'G (request -> F grant)' | parsolve automaton --outs grant | parsolve synth",
+};
+
+const MEANS: Help = Help {
+    about: "Prints whether an automaton accepts exactly the words that satisfy a formula",
+    usage: "parsolve means [OPTIONS] [AUTOMATON FORMULA]",
+    more: "\
+Input: an automaton in HOA v1, deterministic, with a parity condition and labels on its edges, and a formula, as `automaton`
+reads it, from the files AUTOMATON and FORMULA, or from standard input with a line `--` between them. A header
+`controllable-AP` makes no difference. A proposition that only one of the two names is free in the other.
+Output: `SAME` if the automaton accepts exactly the words that satisfy the formula. Or `DIFFERS`, a line that says which of the
+two takes a word, and the word: a line for each step with the propositions that hold (`-` if none does), a line `loop`, and
+lines that repeat for ever. With `--status` the exit status is 0 for `SAME`, and 10 for `DIFFERS`.
+
+Example: parsolve means examples/traffic-light.hoa examples/traffic-light.ltl
+prints `SAME`.",
 };
 
 const GAME: Help = Help {
     about: "Prints the parity game of an automaton",
     usage: "parsolve game [OPTIONS] [AUTOMATON]",
     more: "\
-Input: an automaton in HOA v1 with the header `controllable-AP`, or without it where `--outs` names the propositions that are
-controllable: deterministic, with a parity condition, labels on edges; by `parsolve game AUTOMATON` from a file, and else from standard input
-Output: its game in the format of PGSolver. Player 1 chooses the propositions that aren't controllable, player 0 then the
-controllable ones. `dead` is where a run ends, `sQ` the arrival at state Q without a set and `sQ/S` with the set S that
-counts, `sQ:I` the answer at Q to the input letter I. Player 0 wins from `sQ` of the start exactly if a controller exists
-under which every run is accepted.
+Input: an automaton in HOA v1, deterministic, with a parity condition and labels on its edges, from the file AUTOMATON or
+from standard input. The header `controllable-AP` lists the propositions that the controller sets. If there is no such
+header, `--outs` names them.
+Output: the game of the automaton in PGSolver's format. Player 1 chooses the propositions that the environment sets, and
+then player 0 those that the controller sets. The run has ended at vertex `dead`. The vertex `sQ` is the arrival at state
+Q without a set, and `sQ/S` the arrival with the set S that counts. At `sQ:I` player 0 answers the input letter I at
+state Q. Player 0 wins from `sQ`, for the start Q, if and only if there is a controller under which every run is accepted.
 
 Example: parsolve game examples/request-grant.hoa | parsolve solve",
 };
@@ -163,11 +216,15 @@ const SYNTH: Help = Help {
     about: "Prints a controller for an automaton, as a circuit",
     usage: "parsolve synth [OPTIONS] [AUTOMATON]",
     more: "\
-Input: an automaton in HOA v1 with the header `controllable-AP`, or without it where `--outs` names the propositions that are
-controllable: deterministic, with a parity condition, labels on edges; by `parsolve synth AUTOMATON` from a file, and else from standard input
-Output: `REALIZABLE` and a circuit in the ASCII form of AIGER, whose inputs are the propositions that aren't controllable
-and whose outputs are those that are: under it every run is accepted, whatever the inputs. Or `UNREALIZABLE`, if there is
-no such controller.
+Input: an automaton in HOA v1, deterministic, with a parity condition and labels on its edges, from the file AUTOMATON or
+from standard input. The header `controllable-AP` lists the propositions that the controller sets. If there is no such
+header, `--outs` names them.
+Output: `REALIZABLE` and a circuit in the ASCII form of AIGER. Its inputs are the propositions that the environment sets,
+its outputs those that the controller sets, and the automaton accepts every run of it, whatever the inputs. Or
+`UNREALIZABLE`, if there is no such controller. With `--small` the circuit has fewer latches and
+gates, and takes more time to find; the program looks at all its runs before it prints the circuit, as `verify` does.
+With `--counter` there is a circuit behind `UNREALIZABLE` too. It plays the environment: its inputs are the propositions that
+the controller sets, its outputs the others, and the automaton accepts no run of it, whatever the controller does.
 
 Example: parsolve synth examples/request-grant.hoa",
 };
@@ -176,16 +233,31 @@ const VERIFY: Help = Help {
     about: "Prints whether an automaton accepts each run of a circuit",
     usage: "parsolve verify [OPTIONS] [AUTOMATON CIRCUIT]",
     more: "\
-Input: an automaton, as `synth` reads it, and a circuit in AIGER, ASCII or binary, by `parsolve verify AUTOMATON CIRCUIT` from
-two files, and else from standard input, with a line `--` between. What `synth` prints is taken as it is. The symbols of the
-circuit's inputs and outputs are the names of the propositions; with `--by-place` their order is that of the propositions.
-Output: `ACCEPTED` if, whatever the inputs, the circuit has exactly one run and the automaton accepts it; `STUCK` and a line of
-inputs for each step, after which the automaton has no edge for what the circuit makes; or `REJECTED`, lines of inputs, a line
-`loop`, and the lines that come round for ever: the automaton doesn't accept the run on these inputs. A line has a 0 or a 1
-for each input, in the order of the circuit's inputs.
+Input: an automaton, as `synth` reads it, and a circuit in AIGER, ASCII or binary, from the files AUTOMATON and CIRCUIT, or
+from standard input with a line `--` between them. The answer of `synth` is such a circuit. The symbols of the circuit's
+inputs and outputs name the propositions. With `--by-place` their order matches that of the propositions.
+Output: `ACCEPTED` if the circuit has exactly one run for any inputs, and the automaton accepts that run. `STUCK` and a
+line of inputs for each step if the automaton then has no edge for what the circuit does. `REJECTED`, lines of inputs, a
+line `loop`, and lines of inputs that repeat for ever, if the automaton does not accept the run on these inputs. A line has
+a 0 or a 1 for each input, in the order of the circuit's inputs. With `--status` the exit status is 0 for `ACCEPTED`, and
+10 for `STUCK` and `REJECTED`.
+With `--environment` the circuit plays the environment: its inputs are the propositions that the controller sets, its outputs
+the others, and no output depends on an input of the same step. Output: `REFUTES` if the automaton accepts no run of it,
+whatever the controller does, so that there is no controller. Or `FAILS`, lines of inputs, a line `loop`, and lines that
+repeat for ever: the automaton accepts the run on these inputs. With `--status` the exit status is 0 for `REFUTES`.
 
-Example: parsolve synth examples/arbiter.hoa > arbiter.aag; parsolve verify examples/arbiter.hoa arbiter.aag",
+Example: parsolve synth examples/arbiter.hoa | parsolve verify examples/arbiter.hoa -",
 };
+
+/// The help of `--status` for `check`.
+const CHECK_STATUS: &str = "End with status 0 for `WINS`, and 10 for `LEAVES` and `CYCLE`";
+
+/// The help of `--status` for `verify`.
+const VERIFY_STATUS: &str =
+    "End with status 0 for `ACCEPTED` and `REFUTES`, and 10 for other answers";
+
+/// The help of `--status` for `means`.
+const MEANS_STATUS: &str = "End with status 0 for `SAME`, and 10 for `DIFFERS`";
 
 const WORKER_MORE: &str = "\
 It reads no standard input and prints nothing: it connects to the port, and ends when the solver tells it to or goes away.";
@@ -195,7 +267,7 @@ fn workers_option<'a>(alloc: Global) -> Arg<'a> {
     Arg::new(alloc, WORKERS)
         .long(WORKERS)
         .value_name("N")
-        .help("How many workers solve, from 0 to 16; the answer is the same")
+        .help("How many workers solve the game, from 0 to 16; the answer is the same")
         .action(ArgAction::Set)
         .value_parser(clap::value_parser!(u8).range(0..=16))
         .default_value("2")
@@ -207,7 +279,7 @@ fn apart_option<'a>(alloc: Global) -> Arg<'a> {
         .long(APART)
         .value_name("PATH")
         .help(
-            "Start each worker as the program PATH, which has to be this one; the answer is the same",
+            "Start each worker as the program PATH, which must be this program; the answer is the same",
         )
         .action(ArgAction::Set)
 }
@@ -217,10 +289,35 @@ fn any_option<'a>(alloc: Global) -> Result<Arg<'a>, Error> {
     Ok(
         Arg::new(alloc, ANY)
             .long(ANY)
-            .help("Print any strategy that wins, in less time; the winners are the same")
+            .help("Print any winning strategy, found in less time; the winners are the same")
             .action(ArgAction::SetTrue)
             .conflicts_with(WORKERS)?
             .conflicts_with(APART)?,
+    )
+}
+
+/// The option `--small`.
+fn small_option<'a>(alloc: Global) -> Result<Arg<'a>, Error> {
+    Ok(
+        Arg::new(alloc, SMALL)
+            .long(SMALL)
+            .help("Print a small circuit, in more time; under it every run is accepted too")
+            .action(ArgAction::SetTrue)
+            .conflicts_with(WORKERS)?
+            .conflicts_with(APART)?,
+    )
+}
+
+/// The option `--counter`.
+fn counter_option<'a>(alloc: Global) -> Result<Arg<'a>, Error> {
+    Ok(
+        Arg::new(alloc, COUNTER)
+            .long(COUNTER)
+            .help("If there is no controller, print a circuit of the environment that shows why")
+            .action(ArgAction::SetTrue)
+            .conflicts_with(WORKERS)?
+            .conflicts_with(APART)?
+            .conflicts_with(SMALL)?,
     )
 }
 
@@ -228,8 +325,16 @@ fn any_option<'a>(alloc: Global) -> Result<Arg<'a>, Error> {
 fn by_place_option<'a>(alloc: Global) -> Arg<'a> {
     Arg::new(alloc, BY_PLACE)
         .long(BY_PLACE)
+        .help("Match the circuit's inputs and outputs to the propositions by order, not by name")
+        .action(ArgAction::SetTrue)
+}
+
+/// The option `--environment`.
+fn environment_option<'a>(alloc: Global) -> Arg<'a> {
+    Arg::new(alloc, ENVIRONMENT)
+        .long(ENVIRONMENT)
         .help(
-            "Take the circuit's inputs and outputs in the order of the propositions, and not by their names",
+            "Ask whether a circuit that plays the environment keeps every controller from success",
         )
         .action(ArgAction::SetTrue)
 }
@@ -240,7 +345,7 @@ fn outs_option<'a>(alloc: Global) -> Arg<'a> {
         .long(OUTS)
         .value_name("NAMES")
         .help(
-            "The names of the controllable propositions, with commas between, in place of the header",
+            "The propositions that the controller sets, names separated by commas, in place of the header",
         )
         .action(ArgAction::Set)
 }
@@ -249,7 +354,24 @@ fn outs_option<'a>(alloc: Global) -> Arg<'a> {
 fn stats_option<'a>(alloc: Global) -> Arg<'a> {
     Arg::new(alloc, STATS)
         .long(STATS)
-        .help("Tell counts and seconds on the error stream, behind the answer")
+        .help("Print counts and seconds on the error stream, after the answer")
+        .action(ArgAction::SetTrue)
+}
+
+/// The option `--json`.
+fn json_option<'a>(alloc: Global) -> Arg<'a> {
+    Arg::new(alloc, JSON)
+        .long(JSON)
+        .help("Print counts and seconds as one JSON object on the error stream, after the answer")
+        .action(ArgAction::SetTrue)
+}
+
+/// The option `--status`, with its help.
+fn status_option<'a>(alloc: Global, help: &'static str) -> Arg<'a> {
+    let help: &'a str = help;
+    Arg::new(alloc, STATUS)
+        .long(STATUS)
+        .help(help)
         .action(ArgAction::SetTrue)
 }
 
@@ -264,7 +386,7 @@ fn port_option<'a>(alloc: Global) -> Arg<'a> {
         .value_parser(clap::value_parser!(u16).range(1..))
 }
 
-/// The command as the command line knows it, with this help.
+/// The command in `clap`'s words, with this help.
 fn helped<'a>(alloc: Global, command: Command, help: Help) -> Result<Program<'a>, Error> {
     let (name, about, more): (&'a str, &'a str, &'a str) = (command.name(), help.about, help.more);
     let usage: &'a str = help.usage;
@@ -276,7 +398,7 @@ fn helped<'a>(alloc: Global, command: Command, help: Help) -> Result<Program<'a>
     )
 }
 
-/// The same of a command whose game workers can solve.
+/// The same for a command whose game workers can solve.
 fn shared<'a>(alloc: Global, command: Command, help: Help) -> Result<Program<'a>, Error> {
     Ok(
         helped(alloc, command, help)?
@@ -285,43 +407,61 @@ fn shared<'a>(alloc: Global, command: Command, help: Help) -> Result<Program<'a>
     )
 }
 
-/// The command as the command line knows it.
+/// The same with the options for figures.
+fn counted<'a>(alloc: Global, program: Program<'a>) -> Result<Program<'a>, Error> {
+    Ok(program.arg(stats_option(alloc))?.arg(json_option(alloc))?)
+}
+
+/// The command in `clap`'s words.
 fn subcommand<'a>(alloc: Global, command: Command) -> Result<Program<'a>, Error> {
-    let stats = stats_option(alloc);
     match command {
-        Command::Measure { .. } => Ok(shared(alloc, command, MEASURE)?.arg(stats)?),
-        Command::Solve { .. } | Command::SolveAny { .. } => Ok(
-            shared(alloc, command, SOLVE)?
-                .arg(any_option(alloc)?)?
-                .arg(stats)?,
+        Command::Measure { .. } => counted(alloc, shared(alloc, command, MEASURE)?),
+        Command::Solve { .. } | Command::SolveAny { .. } => counted(
+            alloc,
+            shared(alloc, command, SOLVE)?.arg(any_option(alloc)?)?,
         ),
-        Command::Check => Ok(helped(alloc, command, CHECK)?.arg(stats)?),
+        Command::Check => counted(
+            alloc,
+            helped(alloc, command, CHECK)?.arg(status_option(alloc, CHECK_STATUS))?,
+        ),
         Command::Replay => helped(alloc, command, REPLAY),
-        Command::Game => Ok(
-            helped(alloc, command, GAME)?
-                .arg(outs_option(alloc))?
-                .arg(stats)?,
+        Command::Automaton => counted(
+            alloc,
+            helped(alloc, command, AUTOMATON)?.arg(outs_option(alloc))?,
         ),
-        Command::Synth { .. } => Ok(
-            shared(alloc, command, SYNTH)?
-                .arg(outs_option(alloc))?
-                .arg(stats)?,
+        Command::Means => counted(
+            alloc,
+            helped(alloc, command, MEANS)?.arg(status_option(alloc, MEANS_STATUS))?,
         ),
-        Command::Verify { .. } => Ok(
+        Command::Game => counted(
+            alloc,
+            helped(alloc, command, GAME)?.arg(outs_option(alloc))?,
+        ),
+        Command::Synth { .. } | Command::SynthSmall { .. } | Command::SynthCounter { .. } =>
+            counted(
+                alloc,
+                shared(alloc, command, SYNTH)?
+                    .arg(small_option(alloc)?)?
+                    .arg(counter_option(alloc)?)?
+                    .arg(outs_option(alloc))?,
+            ),
+        Command::Verify { .. } => counted(
+            alloc,
             helped(alloc, command, VERIFY)?
                 .arg(by_place_option(alloc))?
+                .arg(environment_option(alloc))?
                 .arg(outs_option(alloc))?
-                .arg(stats)?,
+                .arg(status_option(alloc, VERIFY_STATUS))?,
         ),
     }
 }
 
-/// The worker as the command line knows it.
+/// The worker in `clap`'s words.
 fn worker<'a>(alloc: Global) -> Result<Program<'a>, Error> {
     Ok(
         Program::new(alloc, WORKER)
             .about(
-                "Lifts vertices for a solver that has started it; `--apart` of measure, solve and synth does",
+                "Lifts vertices for the solver that started it, with `--apart` of measure, solve or synth",
             )
             .after_help(WORKER_MORE)
             .arg(port_option(alloc))?,
@@ -340,7 +480,7 @@ fn program<'a>(alloc: Global) -> Result<Program<'a>, Error> {
     Ok(program.subcommand(worker(alloc)?)?)
 }
 
-/// How many workers the words ask for; 0 where the command solves nothing.
+/// The number of workers that the words ask for; 0 if the command solves nothing.
 fn workers_in(matches: &ArgMatches<'_>) -> u32
     ensures { result ≤ 16 }
 {
@@ -387,7 +527,7 @@ fn port_in(matches: &ArgMatches<'_>) -> Option<u16>
     }
 }
 
-/// What the words ask for whose second word is the name.
+/// What these words ask for; their second word is the name.
 fn line_of(alloc: Global, name: &str, matches: &ArgMatches<'_>) -> Result<Option<Invocation>, Error>
     ensures { IfOk result (λ line. IfSome line (IsLineOf name.now)) }
 {
@@ -402,17 +542,23 @@ fn line_of(alloc: Global, name: &str, matches: &ArgMatches<'_>) -> Result<Option
     };
     let command = match command {
         Command::Solve { workers } if has_flag(matches, ANY) => Command::SolveAny { workers },
+        Command::Synth { workers } if has_flag(matches, SMALL) => Command::SynthSmall { workers },
+        Command::Synth { workers } if has_flag(matches, COUNTER) => Command::SynthCounter {
+            workers,
+        },
         Command::Verify { workers, .. } => Command::Verify {
             workers,
             by_place: has_flag(matches, BY_PLACE),
+            environment: has_flag(matches, ENVIRONMENT),
         },
         _ => command,
     };
     Ok(Some(Invocation::Run(command, value_in(alloc, matches, APART)?)))
 }
 
-/// Reads a command line, whose first word is the program's own name. The error is `clap`'s: its text, and whether it
-/// goes to the error stream (a fault of the command line) or not (`--help`, `--version`).
+/// Reads a command line, whose first word is the program's own name. The error is `clap`'s. It has the text to print, and says
+/// whether that goes to the error stream (a fault of the command line) or to standard output (`--help`, `--version`). If memory runs
+/// out, its kind is `OutOfMemory`.
 pub fn parse_request(alloc: Global, words: &[&str]) -> Result<Request, Error>
     ensures { IfOk result (λ request. AsksFor (map (λ word. word.now) words.now) request.line) }
 {
@@ -420,16 +566,24 @@ pub fn parse_request(alloc: Global, words: &[&str]) -> Result<Request, Error>
     let matches = program.try_get_matches_from_mut(words)?;
     let outs = value_in(alloc, &matches, OUTS)?;
     let stats = has_flag(&matches, STATS);
+    let json = has_flag(&matches, JSON);
+    let status = has_flag(&matches, STATUS);
     match words {
         [_, name, ..] => match line_of(alloc, name, &matches)? {
-            Some(line) => Ok(Request { line, outs, stats }),
+            Some(line) => Ok(Request {
+                line,
+                outs,
+                stats,
+                json,
+                status,
+            }),
             None => Err(program.error(ErrorKind::InvalidSubcommand, "no such command")?),
         },
         _ => Err(program.error(ErrorKind::MissingSubcommand, "no command")?),
     }
 }
 
-/// What a command line asks for, without what goes with that. The error is that of `parse_request`.
+/// Reads a command line as `parse_request` does, and returns only what it asks for. The error is that of `parse_request`.
 pub fn parse_words(alloc: Global, words: &[&str]) -> Result<Invocation, Error>
     ensures { IfOk result (AsksFor (map (λ word. word.now) words.now)) }
 {

@@ -3,7 +3,9 @@ use Rattle.pg_aiger.specs.CircuitText.{input, output}
 use Rattle.pg_aiger.specs.CircuitLayout.{input_names, output_names}
 use Rattle.pg_aiger_reader.specs.Views.{circuit_in, symbols_in}
 use Rattle.pg_aiger_netlist.specs.Netlists.{IsAcyclic}
+use Rattle.pg_verify.specs.Reached.{HasTooManyStates}
 use Rattle.pg_verify.specs.Verdicts.{Says}
+use Rattle.pg_cli_command.specs.Mirrors.Looking.{IsUnlooked}
 use Rattle.pg_cli_command.specs.Faults.{circuit_fault, tie_fault, netlist_fault}
 use Rattle.pg_cli_command.specs.Verifying.{ArePaired, RefusesVerify, verdict_text}
 use Rattle.pg_cli_command.specs.Mirrors.Parting.{parting_of}
@@ -92,7 +94,8 @@ returns-in_err-verdict-in-Some-clause-refused g c =
     refused_by (Fails (RefusesVerify Kind Parts c.args.by_place)) c.from_residual-in_err-verdict-in-Some.result fault
     c.from_residual-in_err-verdict-in-Some.ensures.1
     (unlooked Kind Parts c.args.by_place a (circuit_in parts) (circuit_in tied) paired
-    (subst IsAcyclic c.in_ok-netlist-in-Some.ensures.lists c.in_ok-netlist-in-Some.ensures.acyclic) fault c.in_err-verdict-in-Some.ensures.refused)
+    (subst IsAcyclic c.in_ok-netlist-in-Some.ensures.lists c.in_ok-netlist-in-Some.ensures.acyclic) fault
+    (subst (λ (k : Circuit). IsUnlooked Kind a k fault) c.in_ok-netlist-in-Some.ensures.lists c.in_err-verdict-in-Some.ensures.refused))
 
 pub returns-clause-answer : goal.returns-clause-answer
 returns-clause-answer g c =
@@ -122,6 +125,7 @@ returns-clause-answer g c =
         tied = circuit_in tied;
         paired = paired;
         acyclic = subst IsAcyclic c.in_ok-netlist-in-Some.ensures.lists c.in_ok-netlist-in-Some.ensures.acyclic;
+        within = subst (λ (k : Circuit). ¬ HasTooManyStates a k) c.in_ok-netlist-in-Some.ensures.lists c.in_ok-verdict-in-Some.ensures.within;
         verdict = verdict;
         says = subst (λ (k : Circuit). Says a spelt.says.condition k verdict) c.in_ok-netlist-in-Some.ensures.lists
             (c.in_ok-verdict-in-Some.ensures.says spelt.says.condition spelt.says.shape.fits);

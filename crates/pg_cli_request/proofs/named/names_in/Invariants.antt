@@ -1,0 +1,5 @@
+use Rattle.std.proofs.Common.{◌≡◌, map}
+use Rattle.pg_cli_request.proofs.named.names_in.Given as goal
+
+abbrev pub invariant-loop-name : goal.invariant-loop-name
+invariant-loop-name l = map (λ name. name.now) l.names.items ≡ map (λ name. name.now) l.yielded

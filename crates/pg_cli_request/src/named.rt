@@ -1,0 +1,119 @@
+//! Outputs that the command line names.
+
+ghost use Rattle.std.specs.Prelude.{◌≡◌, ◌≤◌, ℕ, Some, length, map, IfOk};
+ghost use Rattle.std.specs.Option.{option_map};
+ghost use Rattle.pg_cli_request.specs.Inputs.{Whole, names_in, HasNamed, IsNamed};
+ghost use Rattle.pg_cli_request.specs.Mirrors.Givens.{input_of, IsWithin};
+
+use crate::fault::Fault;
+use crate::input::Given;
+use crate::pair::Pair;
+use pg_cli::{CliFault, Command, MOST_BYTES, part_texts};
+use pg_hoa::{OutputsFault, with_outputs};
+use std::alloc::{AllocError, Global};
+
+/// What stands between two names.
+const COMMA: char = ',';
+
+/// The names between commas.
+fn names_in(alloc: Global, outs: &str) -> Result<Vec<&[u8]>, AllocError>
+    ensures { IfOk result (λ names. map (λ name. name.now) names.items ≡ names_in outs.now) }
+{
+    let mut names = Vec::new(alloc);
+    for name in outs.split(COMMA) {
+        names.push(name.as_bytes())?;
+    }
+    Ok(names)
+}
+
+/// The fault for a reason why outputs can't be named.
+fn fault_of(fault: OutputsFault, outs: &str) -> Fault<'_> {
+    match fault {
+        OutputsFault::Text(fault) => Fault::Cli(CliFault::from(fault)),
+        OutputsFault::Controlled => Fault::Controlled,
+        OutputsFault::NoProposition(place) => Fault::NoProposition(
+            outs.split(COMMA).nth(place).unwrap_or(outs),
+        ),
+    }
+}
+
+/// The text of an automaton, with a header more where outputs are named: it says that the controller sets these. It refuses a text that
+/// becomes too long by it.
+pub(crate) fn name_outputs<'a>(
+    alloc: Global,
+    outs: Option<&'a str>,
+    text: Vec<u8>,
+) -> Result<Vec<u8>, Fault<'a>>
+    ensures named { IfOk result (λ named. HasNamed (option_map (λ o. o.now) outs.entry) text.items named.items) }
+    ensures limit { length text.items ≤ MOST_BYTES → IfOk result (λ named. length named.items ≤ MOST_BYTES) }
+{
+    let Some(outs) = outs else {
+        return Ok(text);
+    };
+    let names = names_in(alloc, outs)?;
+    match with_outputs(alloc, &text, names.as_slice()) {
+        Ok(headed) => {
+            if headed.len() > MOST_BYTES {
+                return Err(Fault::Cli(CliFault::InputTooLong));
+            }
+            Ok(headed)
+        }
+        Err(fault) => Err(fault_of(fault, outs)),
+    }
+}
+
+/// The same of the first text of `verify` in one input, which is parted for it.
+fn name_parted<'a>(
+    alloc: Global,
+    by_place: bool,
+    environment: bool,
+    outs: &'a str,
+    text: &[u8],
+) -> Result<Given, Fault<'a>>
+    ensures limit { IfOk result IsWithin }
+    ensures named { IfOk result (λ input. (workers : ℕ)
+        → IsNamed (Some outs.now) (Command.Verify workers by_place environment) (Whole text.now) (input_of input)) }
+{
+    let (first, second) = part_texts(alloc, text)?;
+    let first = name_outputs(alloc, Some(outs), first)?;
+    Ok(Given::Apart(
+        Pair::Verify {
+            by_place,
+            environment,
+        },
+        first,
+        second,
+    ))
+}
+
+/// The input, but that the controller sets the outputs that are named, if any are.
+pub(crate) fn name_given<'a>(
+    alloc: Global,
+    command: Command,
+    outs: Option<&'a str>,
+    given: Given,
+) -> Result<Given, Fault<'a>>
+    requires limit { IsWithin given }
+    ensures named { IfOk result (λ input. IsNamed (option_map (λ o. o.now) outs.entry) command (input_of given) (input_of input)) }
+    ensures limit { IfOk result IsWithin }
+{
+    match given {
+        Given::Apart(pair, first, second) => Ok(Given::Apart(
+            pair,
+            name_outputs(alloc, outs, first)?,
+            second,
+        )),
+        Given::Whole(text) => match (command, outs) {
+            (Command::Automaton, _) => Ok(Given::Whole(text)),
+            (
+                Command::Verify {
+                    by_place,
+                    environment,
+                    ..
+                },
+                Some(outs),
+            ) => { name_parted(alloc, by_place, environment, outs, &text) }
+            _ => Ok(Given::Whole(name_outputs(alloc, outs, text)?)),
+        },
+    }
+}

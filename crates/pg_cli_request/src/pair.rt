@@ -1,0 +1,40 @@
+//! Commands that are given two texts.
+
+ghost use Rattle.std.specs.Prelude.{◌≡◌};
+ghost use Rattle.pg_cli_request.specs.Inputs.{pair_of};
+
+use pg_cli::Command;
+
+/// A command that is given two texts: a game or an automaton, and what belongs to it.
+#[derive(Clone, Copy, Debug, PartialEq, Eq)]
+pub enum Pair {
+    /// A game and a solution of it.
+    Check,
+    /// A game and a script.
+    Replay,
+    /// An automaton and a formula.
+    Means,
+    /// An automaton and a circuit, whose inputs and outputs go by their names, or by their places, and which plays the controller, or the
+    /// environment.
+    Verify { by_place: bool, environment: bool },
+}
+
+/// The command as one that is given two texts; none where it takes one.
+pub(crate) fn pair_of(command: Command) -> Option<Pair>
+    ensures { result ≡ pair_of command }
+{
+    match command {
+        Command::Check => Some(Pair::Check),
+        Command::Replay => Some(Pair::Replay),
+        Command::Means => Some(Pair::Means),
+        Command::Verify {
+            by_place,
+            environment,
+            ..
+        } => Some(Pair::Verify {
+            by_place,
+            environment,
+        }),
+        _ => None,
+    }
+}

@@ -1,0 +1,179 @@
+//! What a text looks like that is no text of its kind, and what may help.
+
+use pg_cli_words::Command;
+
+/// What a text is of.
+#[derive(Clone, Copy)]
+pub(crate) enum Kind {
+    Game,
+    Solution,
+    Script,
+    Formula,
+    Automaton,
+    Circuit,
+}
+
+/// What a text can't begin with, whatever it is of, and what that is.
+const FOREIGN: [(&[u8], &str); 9] = [
+    (
+        b"\x1f\x8b",
+        "the text is compressed by gzip; unpack it first",
+    ),
+    (
+        b"\xfd7zXZ\x00",
+        "the text is compressed by xz; unpack it first",
+    ),
+    (b"PK\x03\x04", "the text is a zip archive; unpack it first"),
+    (b"BZh", "the text is compressed by bzip2; unpack it first"),
+    (
+        b"\x28\xb5\x2f\xfd",
+        "the text is compressed by zstd; unpack it first",
+    ),
+    (
+        b"\xef\xbb\xbf",
+        "the text begins with a byte order mark; save it without one",
+    ),
+    (
+        b"\xff\xfe",
+        "the text is in UTF-16; save it in ASCII or UTF-8",
+    ),
+    (
+        b"\xfe\xff",
+        "the text is in UTF-16; save it in ASCII or UTF-8",
+    ),
+    (b"UNREALIZABLE", "the answer UNREALIZABLE has no circuit"),
+];
+
+/// How texts begin, the first that fits, and what they are of.
+const BEGINNINGS: [(&[u8], Kind); 13] = [
+    (b"HOA:", Kind::Automaton),
+    (b"aag ", Kind::Circuit),
+    (b"aig ", Kind::Circuit),
+    (b"REALIZABLE", Kind::Circuit),
+    (b"paritysol", Kind::Solution),
+    (b"workers", Kind::Script),
+    (b"parity", Kind::Game),
+    (b"min-parity", Kind::Game),
+    (b"max-parity", Kind::Game),
+    (b"start", Kind::Game),
+    (b"G ", Kind::Formula),
+    (b"G(", Kind::Formula),
+    (b"[]", Kind::Formula),
+];
+
+/// What stands in games of other tools, and how it is rewritten.
+const OF_GAMES: [(&[u8], &str); 5] = [
+    (
+        b"/*",
+        "comments aren't read; tools/pg rewrites the game without them",
+    ),
+    (
+        b"//",
+        "comments aren't read; tools/pg rewrites the game without them",
+    ),
+    (
+        b"#",
+        "comments aren't read; tools/pg rewrites the game without them",
+    ),
+    (
+        b"min-parity",
+        "min-parity isn't read; tools/pg rewrites the game with max parity",
+    ),
+    (
+        b"max-parity",
+        "max-parity isn't read; tools/pg rewrites it as parity",
+    ),
+];
+
+/// The same of automata, where no token begins so.
+const OF_AUTOMATA: [(&[u8], &str); 1] = [(
+    b".",
+    "tools/hoa rewrites version 1.1, and headers with dots in their names",
+)];
+
+/// Where a text isn't of the kind that the command reads there.
+fn another(seen: Kind) -> &'static str {
+    match seen {
+        Kind::Game => "the text looks like a game; measure, solve, check and replay read games",
+        Kind::Solution => "the text looks like a solution; check reads it behind its game",
+        Kind::Script => "the text looks like a script; replay reads it behind its game",
+        Kind::Automaton =>
+            "the text looks like an automaton; game, synth, verify and means read automata",
+        Kind::Circuit => "the text looks like a circuit; verify reads it behind its automaton",
+        Kind::Formula => "the text looks like a formula; automaton and means read formulas",
+    }
+}
+
+/// What the first text of a command is of.
+pub(crate) fn first_kind(command: Command) -> Kind {
+    match command {
+        Command::Automaton => Kind::Formula,
+        Command::Means
+        | Command::Game
+        | Command::Synth { .. }
+        | Command::SynthSmall { .. }
+        | Command::SynthCounter { .. }
+        | Command::Verify { .. } => Kind::Automaton,
+        _ => Kind::Game,
+    }
+}
+
+/// What the second text of a command is of that reads two.
+pub(crate) fn second_kind(command: Command) -> Kind {
+    match command {
+        Command::Verify { .. } => Kind::Circuit,
+        Command::Means => Kind::Formula,
+        Command::Replay => Kind::Script,
+        _ => Kind::Solution,
+    }
+}
+
+/// What stands beside the first beginning that the text has.
+fn beside<T: Copy>(table: &[(&[u8], T)], text: &[u8]) -> Option<T> {
+    for (beginning, found) in table {
+        if text.starts_with(beginning) {
+            return Some(*found);
+        }
+    }
+    None
+}
+
+/// What a text looks like that is to be of this kind. A digit begins solutions too, and no automaton.
+fn looks_like(text: &[u8], wanted: Kind) -> Option<Kind> {
+    let text = text.trim_ascii_start();
+    match (text, wanted) {
+        ([b'0'..=b'9', ..], Kind::Automaton) => Some(Kind::Game),
+        _ => beside(&BEGINNINGS, text),
+    }
+}
+
+/// What a text looks like that is to be of this kind and looks like one of another.
+fn other_than(text: &[u8], wanted: Kind) -> Option<&'static str> {
+    match (looks_like(text, wanted)?, wanted) {
+        // a formula may begin with any word
+        (Kind::Game | Kind::Solution | Kind::Script, Kind::Formula)
+        | (Kind::Game, Kind::Game)
+        | (Kind::Solution, Kind::Solution)
+        | (Kind::Script, Kind::Script)
+        | (Kind::Formula, Kind::Formula)
+        | (Kind::Automaton, Kind::Automaton)
+        | (Kind::Circuit, Kind::Circuit) => None,
+        (seen, _) => Some(another(seen)),
+    }
+}
+
+/// What may help with a syntax error at this offset of a text that is to be of this kind.
+pub(crate) fn on_syntax(text: &[u8], offset: usize, wanted: Kind) -> Option<&'static str> {
+    if let Some(hint) = beside(&FOREIGN, text) {
+        return Some(hint);
+    }
+    if let Some(hint) = other_than(text, wanted) {
+        return Some(hint);
+    }
+    let rest = text.get(offset..)?;
+    match wanted {
+        Kind::Game => beside(&OF_GAMES, rest),
+        Kind::Automaton => beside(&OF_AUTOMATA, rest),
+        _ => None,
+    }
+}
