@@ -21,7 +21,7 @@ pub record IsFoundUnsound (a : GameArrays) (winners strategy : List ℕ) : Type 
   pub spelled : SpellsSolution a winners strategy
   pub unsound : ¬ IsSound (game_of a) (solution_of winners strategy)
 
--- the least edge that counts and leads to a vertex with another winner is told
+-- the least edge that counts and leads to a vertex with another winner is returned
 pub record Leaves (a : GameArrays) (winners strategy : List ℕ) (found : ParsolveFound) : Type 0 where
   pub against : IsFoundUnsound a winners strategy
   pub least : IsLeastLeaving (game_of a) (solution_of winners strategy) found.vertex found.to
@@ -31,7 +31,7 @@ pub record IsHanded (numbers old new : List ℕ) : Type 0 where
   pub front : length numbers ≤ length old → new ≡ numbers ++ drop (length numbers) old
   pub kept : length old < length numbers → new ≡ old
 
--- no such edge is there, and a bad cycle is told, of so many vertices: at most as many as the game has
+-- no such edge is there, and a bad cycle is returned, with this number of vertices: at most as many as the game has
 pub record HasCycle (a : GameArrays) (winners strategy : List ℕ) (found : ParsolveFound) (old new : List ℕ) : Type 0 where
   pub against : IsFoundUnsound a winners strategy
   pub none_leaves : NoneLeaves (game_of a) (solution_of winners strategy)

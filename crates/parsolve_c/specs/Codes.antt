@@ -44,7 +44,7 @@ vertex_of (BadWinner v) = Some v
 vertex_of (BadChoice v) = Some v
 vertex_of _ = None
 
--- what is told of a fault, its code and its vertex, is told of no other, whichever number stood where the vertex is told
+-- no other fault has the same code and the same vertex, whatever number stood in the place of the vertex
 abbrev pub TellsFaultsApart : Type 0
 TellsFaultsApart = (f g : ArraysFault) (old : ℕ) → code_of f ≡ code_of g
     → unwrap_or (vertex_of f) old ≡ unwrap_or (vertex_of g) old → f ≡ g

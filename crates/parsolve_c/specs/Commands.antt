@@ -1,14 +1,15 @@
 -- What the numbers of commands say, and what is answered to a text.
 use Rattle.std.specs.Prelude.{◌≡◌, ◌≢◌, ℕ, ◌<◌, ◌==◌, false, List, length, drop, ◌++◌, Option, Some, None, if◌then◌else◌}
 use Rattle.pg_cli_words.specs.declared.command.Command.{Command}
-use Rattle.pg_cli_words.specs.declared.command.Command.TheVariants.{Measure, Solve, SolveAny, Check, Replay, Game, Synth, Verify}
+use Rattle.pg_cli_words.specs.declared.command.Command.TheVariants.{Measure, Solve, SolveAny, Check, Replay, Automaton, Means, Game, Synth, SynthSmall, SynthCounter, Verify}
 use Rattle.pg_cli_command.specs.declared.fault.CliFault.{CliFault}
 use Rattle.pg_cli_command.specs.declared.fault.CliFault.TheVariants.{OutOfMemory, Read, Write}
 use Rattle.pg_cli_command.specs.FaultTexts.{fault_line}
 use Rattle.pg_cli_command.specs.Answers.{Prints, Refuses}
 use Rattle.parsolve_c.specs.declared.code.TheConstants.{PARSOLVE_COMMAND_MEASURE, PARSOLVE_COMMAND_SOLVE, PARSOLVE_COMMAND_CHECK}
 use Rattle.parsolve_c.specs.declared.code.TheConstants.{PARSOLVE_COMMAND_REPLAY, PARSOLVE_COMMAND_GAME, PARSOLVE_COMMAND_SYNTH, PARSOLVE_COMMAND_SOLVE_ANY}
-use Rattle.parsolve_c.specs.declared.code.TheConstants.{PARSOLVE_COMMAND_VERIFY}
+use Rattle.parsolve_c.specs.declared.code.TheConstants.{PARSOLVE_COMMAND_VERIFY, PARSOLVE_COMMAND_SYNTH_SMALL, PARSOLVE_COMMAND_AUTOMATON}
+use Rattle.parsolve_c.specs.declared.code.TheConstants.{PARSOLVE_COMMAND_MEANS, PARSOLVE_COMMAND_SYNTH_COUNTER}
 
 -- the command of a number
 abbrev pub command_of : ℕ → Option Command
@@ -20,8 +21,16 @@ command_of n =
     else (if n == PARSOLVE_COMMAND_GAME then Some Game
     else (if n == PARSOLVE_COMMAND_SYNTH then Some (Synth 1)
     else (if n == PARSOLVE_COMMAND_SOLVE_ANY then Some (SolveAny 1)
-    else (if n == PARSOLVE_COMMAND_VERIFY then Some (Verify 1 false)
-    else None)))))))
+    else (if n == PARSOLVE_COMMAND_VERIFY then Some (Verify 1 false false)
+    else (if n == PARSOLVE_COMMAND_SYNTH_SMALL then Some (SynthSmall 1)
+    else (if n == PARSOLVE_COMMAND_AUTOMATON then Some Automaton
+    else (if n == PARSOLVE_COMMAND_MEANS then Some Means
+    else (if n == PARSOLVE_COMMAND_SYNTH_COUNTER then Some (SynthCounter 1)
+    else None)))))))))))
+
+-- a command has one number
+abbrev pub NumbersTellApart : Type 0
+NumbersTellApart = (m n : ℕ) (command : Command) → command_of m ≡ Some command → command_of n ≡ Some command → m ≡ n
 
 -- the text is what the command of this number prints for the input
 pub record IsPrinted (n : ℕ) (input text : List ℕ) : Type 0 where
@@ -41,12 +50,12 @@ pub record IsFaultLine (n : ℕ) (input text : List ℕ) : Type 0 where
   pub no_write : fault ≢ Write
   pub line : text ≡ fault_line fault
 
--- the text stands at the front of the output, the rest is as it was, and the length of the text is told
+-- the text stands at the front of the output, the rest is as it was, and the length of the text is returned
 pub record IsHandedWhole (text old new : List ℕ) (written : ℕ) : Type 0 where
   pub told : written ≡ length text
   pub front : new ≡ text ++ drop (length text) old
 
--- there is no room for the text, and its length is told
+-- there is no room for the text, and its length is returned
 pub record IsTooLong (text old : List ℕ) (written : ℕ) : Type 0 where
   pub told : written ≡ length text
   pub longer : length old < length text

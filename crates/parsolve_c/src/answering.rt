@@ -1,4 +1,4 @@
-//! Commands, from texts to texts in memory.
+//! Commands that read and answer texts in memory.
 
 ghost use Rattle.std.specs.Prelude.{◌≡◌, ◌≢◌, ◌↔◌, ◌⊎◌, ℕ, ◌<◌, ◌≤◌, List, length, None, IfOk, IfErr};
 ghost use Rattle.pg_cli_command.specs.FaultTexts.{fault_line};
@@ -9,10 +9,11 @@ ghost use Rattle.parsolve_c.specs.Commands.{command_of, IsPrinted, IsFaultLine, 
 ghost use Rattle.parsolve_c.specs.Mirrors.Replies.{IsReply};
 
 use crate::code::{
-    PARSOLVE_COMMAND, PARSOLVE_COMMAND_CHECK, PARSOLVE_COMMAND_GAME, PARSOLVE_COMMAND_MEASURE,
-    PARSOLVE_COMMAND_REPLAY, PARSOLVE_COMMAND_SOLVE, PARSOLVE_COMMAND_SOLVE_ANY,
-    PARSOLVE_COMMAND_SYNTH, PARSOLVE_COMMAND_VERIFY, PARSOLVE_FAULT, PARSOLVE_OK,
-    PARSOLVE_OUT_OF_MEMORY, PARSOLVE_TOO_SHORT,
+    PARSOLVE_COMMAND, PARSOLVE_COMMAND_AUTOMATON, PARSOLVE_COMMAND_CHECK, PARSOLVE_COMMAND_GAME,
+    PARSOLVE_COMMAND_MEANS, PARSOLVE_COMMAND_MEASURE, PARSOLVE_COMMAND_REPLAY,
+    PARSOLVE_COMMAND_SOLVE, PARSOLVE_COMMAND_SOLVE_ANY, PARSOLVE_COMMAND_SYNTH,
+    PARSOLVE_COMMAND_SYNTH_COUNTER, PARSOLVE_COMMAND_SYNTH_SMALL, PARSOLVE_COMMAND_VERIFY,
+    PARSOLVE_FAULT, PARSOLVE_OK, PARSOLVE_OUT_OF_MEMORY, PARSOLVE_TOO_SHORT,
 };
 use crate::copying::copy_bytes;
 use pg_cli_command::{CliFault, Command, MOST_BYTES, answer, write_fault};
@@ -34,7 +35,12 @@ fn command_of(number: u32) -> Option<Command>
         PARSOLVE_COMMAND_VERIFY => Some(Command::Verify {
             workers: 1,
             by_place: false,
+            environment: false,
         }),
+        PARSOLVE_COMMAND_SYNTH_SMALL => Some(Command::SynthSmall { workers: 1 }),
+        PARSOLVE_COMMAND_AUTOMATON => Some(Command::Automaton),
+        PARSOLVE_COMMAND_MEANS => Some(Command::Means),
+        PARSOLVE_COMMAND_SYNTH_COUNTER => Some(Command::SynthCounter { workers: 1 }),
         _ => None,
     }
 }
@@ -83,7 +89,7 @@ fn hand_over(text: &[u8], output: &mut [u8], written: &mut usize, code: u32) -> 
     code
 }
 
-/// What is told of a command and its input.
+/// The text for a command and its input.
 #[derive(Drop)]
 enum Reply {
     /// What the command prints.
@@ -94,7 +100,7 @@ enum Reply {
     OutOfMemory,
 }
 
-/// What is told of the command of a number.
+/// The text for the command with a number.
 fn reply_to(alloc: Global, number: u32, input: &[u8]) -> Reply
     ensures { IsReply number input.now result }
 {
@@ -103,7 +109,7 @@ fn reply_to(alloc: Global, number: u32, input: &[u8]) -> Reply
     };
     match answered(alloc, command, input) {
         Ok(text) => Reply::Answer(text),
-        // a text in memory is there to be read, and fails to grow for want of memory only
+        // a text in memory is there to be read, and fails to grow only if memory runs out
         Err(CliFault::OutOfMemory) | Err(CliFault::Read) | Err(CliFault::Write) => {
             Reply::OutOfMemory
         }
@@ -114,9 +120,10 @@ fn reply_to(alloc: Global, number: u32, input: &[u8]) -> Reply
     }
 }
 
-/// Answers a command. `PARSOLVE_OK`: what the command prints for the input stands at the front of the output. `PARSOLVE_FAULT`: it prints
-/// nothing, and the line of its fault stands there. `PARSOLVE_TOO_SHORT`: there is no room for either. `written` tells the length of the
-/// text in each case. `PARSOLVE_COMMAND`, `PARSOLVE_OUT_OF_MEMORY`: nothing was written.
+/// Answers a command. `PARSOLVE_OK`: the front of the output holds what the command prints for the input.
+/// `PARSOLVE_FAULT`: the command prints nothing, and the front of the output holds the line of its fault.
+/// `PARSOLVE_TOO_SHORT`: the output is too short for either. In each of these cases `written` is the length of the
+/// text. `PARSOLVE_COMMAND`, `PARSOLVE_OUT_OF_MEMORY`: nothing was written.
 #[unsafe(no_mangle)]
 pub extern "C" fn parsolve_answer(
     alloc: Global,
@@ -146,16 +153,17 @@ pub extern "C" fn parsolve_answer(
     }
 }
 
-/// A text in memory of its own.
+/// A text in memory that the library allocated.
 #[repr(C)]
 #[derive(Drop)]
 pub struct ParsolveText<'a> {
     pub bytes: &'a mut [u8],
 }
 
-/// Answers a command as `parsolve_answer` does, in memory of its own, which the caller frees: so a text of any length is made once.
-/// `PARSOLVE_OK`: `text` is what the command prints for the input. `PARSOLVE_FAULT`: it prints nothing, and `text` is the line of its
-/// fault. `PARSOLVE_COMMAND`, `PARSOLVE_OUT_OF_MEMORY`: `text` is as it was.
+/// Answers a command as `parsolve_answer` does, in memory that the library allocates and the caller frees, so a text of
+/// any length is made once. `PARSOLVE_OK`: `text` is what the command prints for the input. `PARSOLVE_FAULT`: the
+/// command prints nothing, and `text` is the line of its fault. `PARSOLVE_COMMAND`, `PARSOLVE_OUT_OF_MEMORY`: `text`
+/// stays as it was.
 #[unsafe(no_mangle)]
 pub extern "C" fn parsolve_answer_new<'a>(
     alloc: Global,

@@ -13,15 +13,15 @@ use parsolve_c_csr::{Arrays, check};
 use pg_check::Verdict;
 use std::alloc::Global;
 
-/// What speaks against a solution.
+/// The evidence against a solution.
 #[repr(C)]
 #[derive(Clone, Copy)]
 pub struct ParsolveFound {
-    /// The vertex that a fault names, or from which an edge leads to a vertex with another winner.
+    /// The vertex that a fault names, or the source of an edge to a vertex with another winner.
     pub vertex: u32,
-    /// Where that edge leads.
+    /// The target of that edge.
     pub to: u32,
-    /// How many vertices a cycle has.
+    /// The number of vertices in the cycle.
     pub length: usize,
 }
 
@@ -46,9 +46,10 @@ fn tell(verdict: &Verdict, found: &mut ParsolveFound, cycle: &mut [u32]) -> u32
     }
 }
 
-/// Checks a solution, of whichever solver. `PARSOLVE_OK` exactly if it is sound. `PARSOLVE_LEAVES`: the least edge that leads to a vertex
-/// with another winner. `PARSOLVE_CYCLE`: a cycle that its winner loses, at the front of `cycle` if it has room, as it has with a number
-/// for each vertex. Else the code of the first fault, and the vertex that it names.
+/// Checks a solution, no matter which solver made it. `PARSOLVE_OK` if and only if it is sound. `PARSOLVE_LEAVES`:
+/// `found` has the least edge that leads to a vertex with another winner. `PARSOLVE_CYCLE`: its winner loses a cycle,
+/// which is at the front of `cycle` if it fits, as it does if `cycle` has a number for each vertex. Otherwise the code
+/// of the first fault, and the vertex that it names.
 #[unsafe(no_mangle)]
 pub extern "C" fn parsolve_check(
     alloc: Global,

@@ -1,4 +1,4 @@
-//! The codes that the exports answer, and the numbers of the commands. The header has them under the same names.
+//! The codes that the exports return, and the numbers of the commands. The header has them under the same names.
 
 ghost use Rattle.std.specs.Prelude.{◌≡◌, unwrap_or};
 ghost use Rattle.parsolve_c.specs.Codes.{code_of, game_code, vertex_of, game_vertex};
@@ -41,19 +41,19 @@ pub const PARSOLVE_WINNER: u32 = 12;
 /// A winner that owns its vertex and chooses no successor.
 pub const PARSOLVE_CHOICE: u32 = 13;
 
-/// Of `parsolve_check`: an edge leads to a vertex with another winner.
+/// From `parsolve_check`: an edge leads to a vertex with another winner.
 pub const PARSOLVE_LEAVES: u32 = 14;
 
-/// Of `parsolve_check`: a cycle that its winner loses.
+/// From `parsolve_check`: there is a cycle that its winner loses.
 pub const PARSOLVE_CYCLE: u32 = 15;
 
-/// Of `parsolve_answer`: no such command.
+/// From `parsolve_answer`: there is no such command.
 pub const PARSOLVE_COMMAND: u32 = 16;
 
-/// Of `parsolve_answer`: the input has no answer, and the output is the line of its fault.
+/// From `parsolve_answer`: the input has no answer, and the output is the line of the fault.
 pub const PARSOLVE_FAULT: u32 = 17;
 
-/// Of `parsolve_answer`: the output is too short.
+/// From `parsolve_answer`: the output is too short.
 pub const PARSOLVE_TOO_SHORT: u32 = 18;
 
 pub const PARSOLVE_COMMAND_MEASURE: u32 = 0;
@@ -73,6 +73,16 @@ pub const PARSOLVE_COMMAND_SOLVE_ANY: u32 = 6;
 
 /// `verify`, by names.
 pub const PARSOLVE_COMMAND_VERIFY: u32 = 7;
+
+/// `synth --small`.
+pub const PARSOLVE_COMMAND_SYNTH_SMALL: u32 = 8;
+
+pub const PARSOLVE_COMMAND_AUTOMATON: u32 = 9;
+
+pub const PARSOLVE_COMMAND_MEANS: u32 = 10;
+
+/// `synth --counter`.
+pub const PARSOLVE_COMMAND_SYNTH_COUNTER: u32 = 11;
 
 /// The code of a fault of a game.
 fn game_code(fault: GameFault) -> u32

@@ -1,8 +1,14 @@
-//! A law over the definitions. Its function does nothing: its contract is what it is for.
+//! Laws that follow from the definitions. Each function states one in its contract, and does nothing.
 
 ghost use Rattle.parsolve_c.specs.Codes.{TellsFaultsApart};
+ghost use Rattle.parsolve_c.specs.Commands.{NumbersTellApart};
 
-/// What is told of a fault, its code and its vertex, is told of no other.
+/// The code and the vertex of a fault determine the fault.
 pub fn codes_tell_apart()
     ensures { TellsFaultsApart }
+{}
+
+/// The number of a command is that of no other.
+pub fn numbers_tell_apart()
+    ensures { NumbersTellApart }
 {}

@@ -1,5 +1,5 @@
-//! The library for C and for whatever calls C: games, solutions and commands in the memory of the caller. `bindings/parsolve.h` is its
-//! header, which says what a caller owes.
+//! The library for C, and for programs that call C: games, solutions and commands in the caller's memory. Its header is
+//! `bindings/parsolve.h`, which says what a caller must ensure.
 #![tactic(auto)]
 
 mod answering;

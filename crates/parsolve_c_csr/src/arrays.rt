@@ -1,7 +1,7 @@
 //! A game as arrays.
 
-/// A game in compressed sparse rows. Vertex `v` has the priority `priorities[v]`, its owner is Even where `owners[v]` is 0 and
-/// Odd where it is 1, and its successors stand in `successors` from `starts[v]` to `starts[v + 1]`, in any order; a repeated
+/// A game in compressed sparse rows. Vertex `v` has the priority `priorities[v]`. Even owns it if `owners[v]` is 0, and
+/// Odd if it is 1. Its successors are in `successors` from `starts[v]` up to `starts[v + 1]`, in any order; a repeated
 /// one counts once.
 #[derive(Drop)]
 #[repr(C)]

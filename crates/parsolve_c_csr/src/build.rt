@@ -77,7 +77,7 @@ fn examine_sizes(arrays: &Arrays) -> Result<(), GameFault>
     Ok(())
 }
 
-/// Whether the arrays spell a game: else the first fault that speaks against them.
+/// Succeeds if the arrays spell a game, and otherwise returns the first fault in them.
 pub fn examine(arrays: &Arrays) -> Result<(), GameFault>
     ensures ok { OnOk result (SpellsGame (arrays_of arrays.now)) }
     ensures fault { IfErr result (IsFault (arrays_of arrays.now)) }
@@ -129,7 +129,7 @@ pub(crate) fn build(alloc: Global, arrays: &Arrays) -> Result<Game, AllocError>
     }
 }
 
-/// The game of the arrays. Refuses with the first fault that speaks against them, or with `OutOfMemory`.
+/// Makes the game that the arrays spell. Fails with the first fault in them, or with `OutOfMemory`.
 pub fn game_of(alloc: Global, arrays: &Arrays) -> Result<Game, ArraysFault>
     ensures spelled { OnOk result (SpellsGame (arrays_of arrays.now)) }
     ensures game { IfOk result (λ game. game ≡ game_of (arrays_of arrays.now)) }

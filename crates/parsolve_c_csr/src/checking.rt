@@ -79,9 +79,9 @@ fn examine_solution(arrays: &Arrays, winners: &[u8], strategy: &[u32]) -> Result
     }
 }
 
-/// Whether the solution in the arrays is sound, as `pg_check::check` says it; a cycle has at most as many vertices as the game.
-/// Refuses with the first fault of the game; then with `SolutionLengths`; then with the first bad winner; then with the first bad
-/// choice; or with `OutOfMemory`.
+/// Decides whether the solution in the arrays is sound, with the verdict of `pg_check::check`; a cycle has at most as
+/// many vertices as the game. Fails with the first fault of the game; then with `SolutionLengths`; then with the first
+/// bad winner; then with the first bad choice; or with `OutOfMemory`.
 pub fn check(
     alloc: Global,
     arrays: &Arrays,

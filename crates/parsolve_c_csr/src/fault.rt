@@ -6,8 +6,8 @@ ghost use Rattle.parsolve_c_csr.specs.declared.fault.ArraysFault.TheVariants.{Ou
 use std::alloc::AllocError;
 use thiserror::Error;
 
-/// Why arrays spell no game: the first fault. A number is that of a vertex. The lengths are looked at first, then one vertex after
-/// the other.
+/// Why arrays spell no game: the first fault, looking at the lengths first and then at one vertex after the other. The
+/// numbers are vertices.
 #[derive(Clone, Copy, Debug, PartialEq, Eq, Error)]
 pub enum GameFault {
     /// There isn't one owner for each priority, or not one start more than priorities.
@@ -39,7 +39,7 @@ pub enum GameFault {
     UnknownSuccessor(u32),
 }
 
-/// Why there is no answer. A number is that of a vertex.
+/// Why a call has no answer. The numbers are vertices.
 #[derive(Clone, Copy, Debug, PartialEq, Eq, Error)]
 pub enum ArraysFault {
     /// A growth was refused.

@@ -10,7 +10,7 @@ use pg_arena::{Game, Player, Vertex};
 use pg_text::Solution;
 use std::alloc::{AllocError, Global};
 
-/// Stands in a strategy where nothing is chosen.
+/// The number in a strategy for a vertex without a choice.
 pub const NO_CHOICE: u32 = 4_294_967_295;
 
 /// The number of a player.

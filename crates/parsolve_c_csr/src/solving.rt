@@ -15,6 +15,7 @@ use crate::fault::ArraysFault;
 use crate::solution::write;
 use pg_arena::Game;
 use pg_check::{CheckFault, find_solution, strategies};
+use pg_search::propose;
 use pg_text::Solution;
 use std::alloc::Global;
 
@@ -32,13 +33,15 @@ fn solution_of(alloc: Global, game: &Game) -> Result<Solution, CheckFault>
     if let Some(solution) = find_solution(alloc, game)? {
         return Ok(solution);
     }
-    let maps = pg_solver::solve(alloc, game)?;
+    let proposals = propose(alloc, game)?;
+    let maps = pg_solver::solve(alloc, game, proposals)?;
     strategies(alloc, game, &maps.of_game, &maps.of_dual)
 }
 
-/// Writes a sound solution of the game of the arrays: who wins at each vertex, 0 or 1, and the successor that the winner
-/// chooses where it owns the vertex, `NO_CHOICE` elsewhere. Refuses with the first fault of the game; then with `SolutionLengths`
-/// where the outputs aren't as long as there are vertices; or with `OutOfMemory`. Nothing is written then.
+/// Writes a sound solution of the game that the arrays spell: the winner of each vertex, 0 or 1, and the successor that
+/// the winner chooses if it owns the vertex, or else `NO_CHOICE`. Fails with the first fault of the game; then with
+/// `SolutionLengths` if the outputs aren't as long as there are vertices; or with `OutOfMemory`. After a fault nothing
+/// was written.
 pub fn solve(
     alloc: Global,
     arrays: &Arrays,
