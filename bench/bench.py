@@ -8,7 +8,7 @@ a script of 200,000 events with 6 workers.
 PROGRAM is crates/parsolve/out/parsolve where none is given. WORD picks the cases whose names have it; WORDS are further
 words for the program. OTHER is a program with the same commands (it may lack some): its figures stand beside, and how many
 times its processor seconds and its memory the program takes. A run over the limit is ended, and its case isn't repeated. The games
-are those of families.py, the automata those of automata.py, the scripts those of schedules.py.
+are those of families.py, the automata those of random_automata.py, the scripts those of schedules.py.
 """
 import argparse
 import os
@@ -141,7 +141,7 @@ def prepare(source, command, sizes, given):
     """Writes the input of a case, and answers whether that was possible within the limit: `check` needs a solution. This
     is left to other processes, since the peak of a run is at least what the process that starts it has had."""
     family, *numbers = sizes
-    makers = {"automaton": ["automata.py", *numbers], "labels": ["automata.py", "--labels", *numbers]}
+    makers = {"automaton": ["random_automata.py", *numbers], "labels": ["random_automata.py", "--labels", *numbers]}
     maker = makers.get(family, ["families.py", *sizes])
     with open(source, "wb") as out:
         subprocess.run([sys.executable, os.path.join(here, maker[0]), *maker[1:]], stdout=out, check=True)

@@ -432,6 +432,27 @@ def few(a, b, dice):
         yield dice.below(b), dice.below(2), [dice.below(a) for _ in range(dice.between(1, 2))]
 
 
+def bipartite(a, b, dice):
+    """a vertices of priorities below b, each with one or two successors anywhere among those of the other player"""
+    for i in range(a):
+        yield dice.below(b), i % 2, [dice.below(a // 2) * 2 + 1 - i % 2 for _ in range(dice.between(1, 2))]
+
+
+def bipartite_wide(a, b, dice):
+    """the same with one to three successors"""
+    for i in range(a):
+        yield dice.below(b), i % 2, [dice.below(a // 2) * 2 + 1 - i % 2 for _ in range(dice.between(1, 3))]
+
+
+def geometric(a, b, dice):
+    """a vertices with one or two successors anywhere, half of them of priority 0, half of the others of priority 1, and so on up to b"""
+    for _ in range(a):
+        priority = 0
+        while priority < b and dice.one_in(2):
+            priority += 1
+        yield priority, dice.below(2), [dice.below(a) for _ in range(dice.between(1, 2))]
+
+
 def switches(a, b, dice):
     """a bits of a counter, after Friedmann's lower bound for strategy improvement; where b is odd the dual"""
     count, end = 20 * a, ["x"]
@@ -456,7 +477,7 @@ def switches(a, b, dice):
 FAMILIES = {it.__name__: it for it in (settled, climb, climbers, jurdzinski, ladder, clique, recladder, elevator, sparse, random,
                                        chain, grid, wide, hubs, loops, repeats, hard, priorities, steps, spread, two_ladders,
                                        maze, flat_hub, rising_hub, friedmann, twice, path, memory, budget, even, rounds, looks, regions,
-                                       lists, gadget, ring, few, switches)}
+                                       lists, gadget, ring, few, bipartite, bipartite_wide, geometric, switches)}
 
 # those that Even wins without a choice
 WON_BY_EVEN = ("priorities", "steps")

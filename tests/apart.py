@@ -8,6 +8,7 @@ import fcntl
 import os
 import pathlib
 import random
+import resource
 import select
 import shutil
 import signal
@@ -501,6 +502,14 @@ def ends_amid_frames(program):
     return "worker whose solver goes amid frames", None if found == (0, "", "") else f"{found!r}"
 
 
+def listens_before_it_reads(program, files, wanted):
+    """With so many file descriptors the first fault of a command, whose input isn't there, is this one."""
+    ran = subprocess.run([program, "solve", "--workers", "2", "--apart", "/proc/self/exe", "/nonexistent/game.pg"],
+                         preexec_fn=lambda: resource.setrlimit(resource.RLIMIT_NOFILE, (files, files)), capture_output=True, text=True, timeout=LIMIT)
+    found = (ran.returncode, ran.stdout, ran.stderr)
+    return f"{files} file descriptors", None if found == (1, "", f"parsolve: {wanted}\n") else f"{found!r}"
+
+
 def cases(program):
     """The checks of a program, the slow ones first."""
     own, nowhere = [program, "/proc/self/exe"], ["/nonexistent/parsolve", "/dev/null", ""]
@@ -547,6 +556,8 @@ def cases(program):
     for row in SERVED:
         yield serves, program, *row
     yield ends_amid_frames, program
+    yield listens_before_it_reads, program, 4, "cannot listen on 127.0.0.1"  # the port of the second worker would be the fifth
+    yield listens_before_it_reads, program, 8, "cannot open /nonexistent/game.pg: No such file or directory (os error 2)"
 
 
 def why_wrong(call, *rest):

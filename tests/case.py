@@ -51,6 +51,11 @@ def tests_by_name(module, named):
         f"test {name}": lambda self, call=call: fail_for(call()) for name, call in named}})
 
 
+def without_notes(errors):
+    """An error stream but for the notes in it."""
+    return b"".join(line for line in errors.splitlines(keepends=True) if not line.startswith(b"parsolve: note: "))
+
+
 def fresh(crate):
     """The program or library of the crate that is of these sources, or why there is none."""
     ran = subprocess.run(["sh", TOP / "tools/fresh", crate], capture_output=True, text=True)

@@ -1,5 +1,5 @@
 """Sees to it that no game of the benches is lifted to its end: some of each family of bench/families.py, other gadgets in each run, and of
-automata of bench/automata.py, are given to the program `certified`, which tells how their least progress measures are found."""
+automata of bench/random_automata.py, are given to the program `certified`, which tells how their least progress measures are found."""
 import io
 import secrets
 import subprocess
@@ -9,8 +9,8 @@ import case
 from case import TOP
 
 sys.path.insert(0, str(TOP / "bench"))
-import automata  # noqa: E402
 import families  # noqa: E402
+import random_automata  # noqa: E402
 
 # family and sizes, and perhaps a seed; of automata the states, propositions and sets
 CASES = """
@@ -19,6 +19,9 @@ few 1000000 1000
 ring 60000 65536
 few 100000 65536
 few 100000 1000
+bipartite 100000 1000
+bipartite_wide 30000 20000
+geometric 100000 12
 lists 1024 0
 switches 192 0
 switches 192 1
@@ -83,7 +86,7 @@ FOUND = "measure certified\nsolve certified\n"
 def automaton_game(parsolve, numbers):
     """The text of the game of an automaton."""
     text = io.StringIO()
-    automata.write(text, *numbers)
+    random_automata.write(text, *numbers)
     return subprocess.run([parsolve, "game"], input=text.getvalue(), capture_output=True, text=True, check=True, timeout=120).stdout
 
 

@@ -18,6 +18,8 @@ CHAINS = {
     "measure": ["pg_cli_command/specs/Measuring.antt IsMeasured", "pg_cli_command/specs/Measuring.antt IsMeasureOf",
                 "pg_cli_command/specs/Winners.antt MeasuresTellWinners"],
     "synth": ["pg_cli_command/specs/Controllers.antt CircuitAccepted", "pg_cli_command/specs/Controllers.antt NoneAccepted"],
+    "means": ["pg_cli_command/specs/FormulaLaws.antt MeansDecides", "pg_cli_command/specs/FormulaLaws.antt ControllerSatisfies",
+              "pg_cli_command/specs/FormulaLaws.antt NoneSatisfies"],
     "workers": ["pg_cli_command/specs/Replaying.antt IsReplayed", "pg_world/specs/Laws.antt SameTaken", "pg_world/specs/Laws.antt NeverAbove"],
 }
 

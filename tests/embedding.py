@@ -94,7 +94,7 @@ def header_checks():
 def module_checks(codes):
     """The same of the numbers of the Python module."""
     module = MODULE.read_text()
-    commands = re.findall(r'"([\w -]+)"', re.search(r"^COMMANDS = \((.*?)\)", module, re.M)[1])
+    commands = re.findall(r'"([\w -]+)"', re.search(r"^COMMANDS = \((.*?)\)", module, re.M | re.S)[1])
     yield compared("COMMANDS", {f"PARSOLVE_COMMAND_{it.upper().replace(' --', '_')}": str(at) for at, it in enumerate(commands)},
                    {name: number for name, number in codes.items() if name.startswith("PARSOLVE_COMMAND_")})
     names, numbers = re.search(r"^(OK, .*) = (.*)$", module, re.M).groups()
@@ -255,8 +255,7 @@ def verdict_text(game, verdict):
 def says(program, command, text):
     """(status, what a command prints, the error stream but for notes, which the library doesn't tell)."""
     done = subprocess.run([program, *command.split()], input=text, capture_output=True, timeout=600)
-    told = [line for line in done.stderr.splitlines(keepends=True) if not line.startswith(b"parsolve: note: ")]
-    return done.returncode, done.stdout, b"".join(told)
+    return done.returncode, done.stdout, case.without_notes(done.stderr)
 
 
 def answered(parsolve, command, text):
@@ -300,14 +299,18 @@ def game_why(parsolve, program, dice, game):
     return None if says(program, "check", both.encode()) == (0, verdict.encode(), b"") else f"check on {both!r}: {verdict!r}"
 
 
+COMMANDS_OF = {"pg": ("measure", "solve", "solve --any"), "hoa": ("game", "synth", "synth --small", "synth --counter"), "ltl": ("automaton",)}
+
+
 def texts():
     """(command, input) for each command, answers and faults."""
-    examples = {path.name: path.read_bytes() for path in (TOP / "examples").iterdir() if path.suffix in (".pg", ".hoa")}
+    examples = {path.name: path.read_bytes() for path in (TOP / "examples").iterdir() if path.suffix in (".pg", ".hoa", ".ltl")}
     for name, text in sorted(examples.items()):
-        for command in ("measure", "solve", "solve --any") if name.endswith(".pg") else ("game", "synth"):
+        for command in COMMANDS_OF[name.rpartition(".")[2]]:
             yield command, text
     game = b"0 2 1 0,1;\n1 1 0 0,1;\n"
-    for command in ("measure", "solve", "solve --any", "check", "replay", "game", "synth", "verify"):
+    for command in ("measure", "solve", "solve --any", "check", "replay", "automaton", "means", "game", "synth", "synth --small", "synth --counter",
+                    "verify"):
         yield from ((command, text) for text in (b"", b"\n", b"0 0 0 9;\n", game, game + b"--\n", game + b"--\n0 0;\n1 0 1;\n"))
     yield "replay", game + b"--\nworkers 1;\ncentral 1;\nlift 1 1;\ndeliver 1 0;\n"
 
@@ -379,7 +382,7 @@ def array_checks(parsolve):
         is_kept = all(one is other for one, other in zip(parts, (game.priorities, game.owners, game.starts, game.successors)))
         found = game.solve(), game.check(make("B", [0, 0]), make("I", [0, 0]))
         yield kind, None if is_kept == fits and found == (([0, 0], [None, 0]), parsolve.Wins()) else f"kept: {is_kept}, {found}"
-        is_like = type(game.solve_arrays()[1]) is (type(parts[0]) if kind == "NumPy" else array.array)
+        is_like = type(game.solve_arrays()[1]) is (type(parts[0]) if kind.startswith("NumPy") else array.array)
         yield f"{kind}: results", None if is_like else f"{game.solve_arrays()}"
     game = parsolve.Game(b"\2\1", b"\1\0", [b"\0\1", array.array("q", [0, 1])])
     for kind, _, make in kinds:

@@ -1,6 +1,7 @@
 """Games and automata at the limits and just over them: what the program tells of each, or answers, was worked out by hand."""
 import subprocess
 
+import case
 from refused import refusal_differs
 
 VERTICES, EDGES = 1_048_576, 8_388_608
@@ -133,8 +134,9 @@ def of_games(program, games):
 def of_automata(program):
     """The same of automata. The game of one that is read may be too large."""
     for text, told in automata():
-        ran = subprocess.run([program, "game"], input=text, capture_output=True, text=True, timeout=120)
-        is_read = ran.returncode == 0 or ran.stderr == "parsolve: game of the automaton too large\n"
-        if not (is_read if told is None else (ran.returncode, ran.stdout, ran.stderr) == (1, "", f"parsolve: {told}\n")):
+        ran = subprocess.run([program, "game"], input=text.encode(), capture_output=True, timeout=120)
+        fault = case.without_notes(ran.stderr).decode()
+        is_read = ran.returncode == 0 or fault == "parsolve: game of the automaton too large\n"
+        if not (is_read if told is None else (ran.returncode, ran.stdout, fault) == (1, b"", f"parsolve: {told}\n")):
             return f"game on {text[:80]!r}..{text[-60:]!r}: status {ran.returncode}, {ran.stdout[:100]!r}, {ran.stderr!r}, wanted {told!r}"
     return None

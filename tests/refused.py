@@ -2,6 +2,8 @@
 early. What is told of each was worked out by hand."""
 import subprocess
 
+import case
+
 TOO_LARGE = "4294967296"
 # numbers, words, marks, a string, a string without its second quote, a byte with which no token begins, and the end
 TOKENS = ["0", "7", TOO_LARGE, "x", "parity", "start", "paritysol", ";", ",", '"a"', '"a;', "$", ""]
@@ -56,8 +58,8 @@ def misplaced_tokens(program):
 
 def refusal_differs(program, command, text, told):
     """Why the text isn't refused by what has to be told of it, or None."""
-    ran = subprocess.run([program, command], input=text, capture_output=True, text=True, timeout=120)
-    if (ran.returncode, ran.stdout, ran.stderr) == (1, "", f"parsolve: {told}\n"):
+    ran = subprocess.run([program, command], input=text.encode(), capture_output=True, timeout=120)
+    if (ran.returncode, ran.stdout, case.without_notes(ran.stderr)) == (1, b"", f"parsolve: {told}\n".encode()):
         return None
     return f"{command} on {text[:100]!r}..{text[-40:]!r}: status {ran.returncode}, {ran.stdout[:100]!r}, {ran.stderr!r}, wanted {told!r}"
 
@@ -67,10 +69,10 @@ TURNS = 'HOA: v1 Start: 0 AP: 1 "g" controllable-AP: 0 Acceptance: 1 Inf(0) --BO
 
 
 def texts_that_end_too_early(program):
-    """A game's text that lacks but its last newline is answered; each other that is cut, an automaton's too, is refused, and nothing is
-    written. What the program does otherwise, or None."""
+    """A game's text that lacks but its last newline is answered; each other that is cut, an automaton's and a formula's too, is refused,
+    and nothing is written. What the program does otherwise, or None."""
     game = TWO.removesuffix("--\n")
-    for command, text, answered in (("solve", game, len(game) - 1), ("synth", TURNS, None)):
+    for command, text, answered in (("solve", game, len(game) - 1), ("synth", TURNS, None), ("automaton", "(G (a -> F b))", None)):
         for end in range(len(text)):
             ran = subprocess.run([program, command], input=text[:end], capture_output=True, text=True, timeout=120)
             if (ran.returncode, bool(ran.stdout), bool(ran.stderr)) != ((0, True, False) if end == answered else (1, False, True)):

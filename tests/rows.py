@@ -9,7 +9,9 @@ A row has
     blanks     how many blanks stand before the input; absent: none
     stdout     the whole output (or stdout_file); absent: nothing
     stdout_has a text that the output has somewhere, in place of the whole
+    stdout_is  a regular expression that the whole output has to match
     stderr     the whole error stream; absent: anything
+    fault      the error stream but for its notes
     stderr_is  a regular expression that the whole error stream has to match
     status     the exit status; absent: 0
     output_to  where the output goes in place of a pipe: a path, or "closed"
@@ -20,7 +22,7 @@ A table has many inputs of one answer, each of which is a row:
     head, tail what stands before each text, and behind it; absent: nothing
     texts      the texts. A mark `^` is a place in the text, which is without it
     told       the line on the error stream, behind `parsolve: `, with status 1 and no output; `{at}` is the place of the mark, in
-               bytes from the beginning of the input, or behind its line `--`
+               bytes from the beginning of the input, or behind its line `--`. Notes may follow it
     has        in place of `told`: a text that the output has somewhere, with status 0
     words      in place of the texts: command lines that aren't understood, with status 2 and no output
 """
@@ -80,7 +82,7 @@ def rows_of(table):
         row = {"name": f"{table['name']}: {text!r}", "args": table["args"], "stdin": given + behind + table.get("tail", "")}
         if "told" in table:
             told = table["told"].replace("{at}", str(len(given.rpartition("\n--\n")[2].encode()))) if mark else table["told"]
-            row |= {"status": 1, "stderr": f"parsolve: {told}\n"}
+            row |= {"status": 1, "fault": f"parsolve: {told}\n"}
         else:
             row |= {"stdout_has": table["has"]}
         yield row
@@ -94,10 +96,15 @@ def failure(program, row):
     if output is not None and "stdout_has" in row:
         if row["stdout_has"].encode() not in output:
             return f"output {output[:300]!r}, wanted {row['stdout_has']!r} in it"
+    elif output is not None and "stdout_is" in row:
+        if not re.fullmatch(row["stdout_is"].encode(), output):
+            return f"output {output[:300]!r}, wanted one like {row['stdout_is']!r}"
     elif output is not None and output != bytes_of(row, "stdout"):
         return f"output {output[:300]!r}, wanted {bytes_of(row, 'stdout')[:300]!r}"
     if "stderr" in row and errors != row["stderr"].encode():
         return f"error stream {errors[:300]!r}, wanted {row['stderr']!r}"
+    if "fault" in row and case.without_notes(errors) != row["fault"].encode():
+        return f"error stream {errors[:300]!r}, wanted {row['fault']!r} but for notes"
     if "stderr_is" in row and not re.fullmatch(row["stderr_is"].encode(), errors):
         return f"error stream {errors[:300]!r}, wanted one like {row['stderr_is']!r}"
     return None

@@ -18,10 +18,14 @@ READERS = [  # each has to read its file without a word
     ["fish", "-n", FISH],
     ["groff", "-man", "-Tutf8", "-ww", "-z", SHARE / "man/man1/parsolve.1"],
 ]
-COMMANDS = ["check", "game", "measure", "replay", "solve", "synth", "verify", "worker"]
+COMMANDS = ["automaton", "check", "game", "means", "measure", "replay", "solve", "synth", "verify", "worker"]
 # words that were typed, the last of which is to be completed, and what has to be offered
 TYPED = [(["parsolve", ""], [*COMMANDS, "--help", "--version", "-h", "-V"]), (["parsolve", "s"], ["solve", "synth"]),
-         (["parsolve", "solve", "--"], ["--workers", "--apart", "--any", "--stats", "--help"]), (["parsolve", "check", "--"], ["--stats", "--help"]),
+         (["parsolve", "me"], ["means", "measure"]), (["parsolve", "means", "--"], ["--status", "--stats", "--json", "--help"]),
+         (["parsolve", "automaton", "--"], ["--outs", "--stats", "--json", "--help"]),
+         (["parsolve", "solve", "--"], ["--workers", "--apart", "--any", "--stats", "--json", "--help"]),
+         (["parsolve", "check", "--"], ["--status", "--stats", "--json", "--help"]),
+         (["parsolve", "synth", "--"], ["--workers", "--apart", "--small", "--counter", "--outs", "--stats", "--json", "--help"]),
          (["parsolve", "worker", "--p"], ["--port"]), (["parsolve", "solve", "--workers", ""], []),
          (["parsolve", "solve", "--apart", "examples/mor"], ["examples/mortal-worker"]),
          (["parsolve", "solve", "examples/tw"], ["examples/two.pg"]), (["parsolve", "worker", "examples/tw"], []),

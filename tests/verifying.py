@@ -1,6 +1,8 @@
 """`verify` beside a plain product: circuits of `synth`, as they are printed and with one literal changed, are judged as by a search for a
 run that ends or is rejected, and each counterexample is run. Circuits of ABC, of other forms and with other names are read, and what is no
-circuit for the automaton is refused by name."""
+circuit for the automaton is refused by name. What `synth --small` prints is accepted, and no larger. With `--environment` random circuits
+are judged as by a search for a run that is accepted."""
+import itertools
 import random
 import re
 import subprocess
@@ -30,6 +32,12 @@ def asked(program, automaton, circuit, *words):
     return ran.returncode, ran.stdout, ran.stderr
 
 
+def refused(program, automaton, circuit):
+    """The same without the notes behind a fault."""
+    status, output, errors = asked(program, automaton, circuit)
+    return status, output, case.without_notes(errors)
+
+
 def letter_of(line):
     return sum(1 << place for place, bit in enumerate(line) if bit == "1")
 
@@ -40,17 +48,37 @@ def word_of(lines):
     return [letter_of(line) for line in stem], [letter_of(line) for line in loop]
 
 
-def after(a, circuit, place, letters):
-    """Where the circuit and the automaton are after these input letters, and the sets that were met; None where the run has ended."""
+def after(a, circuit, place, letters, is_environment=False):
+    """Where the circuit and the automaton are after these input letters, and the sets that were met; None where the run has ended. The inputs
+    of a circuit that plays the environment are what the controller sets."""
     met = set()
     for letter in letters:
         bits, state = place
         outputs, bits = circuit.step(bits, letter)
-        step = a.steps.get((state, controllers.joined(a.controllable, letter, outputs)))
+        both = (outputs, letter) if is_environment else (letter, outputs)
+        step = a.steps.get((state, controllers.joined(a.controllable, *both)))
         if step is None:
             return None
         place, met = (bits, step[0]), met | {*step[1]}
     return place, met
+
+
+def recurring(a, circuit, stem, loop, is_environment=False):
+    """The sets that recur where the loop goes round and round behind the stem; None where the run ends."""
+    begun = after(a, circuit, (0, 0), stem, is_environment)
+    if begun is None:
+        return None
+    places, sets = [begun[0]], []
+    while places[-1] not in places[:-1]:
+        made = after(a, circuit, places[-1], loop, is_environment)
+        if made is None:
+            return None
+        places, sets = [*places, made[0]], [*sets, made[1]]
+    return set().union(*sets[places.index(places[-1]):])
+
+
+def is_accepting(a, sets):
+    return controllers.holds(controllers.condition(a.shape, a.sets), sets)
 
 
 def refutes(a, circuit, verdict):
@@ -61,17 +89,8 @@ def refutes(a, circuit, verdict):
         return False
     if kind == "STUCK":
         return not loop and bool(stem) and after(a, circuit, (0, 0), stem) is None and after(a, circuit, (0, 0), stem[:-1]) is not None
-    begun = after(a, circuit, (0, 0), stem) if kind == "REJECTED" and loop else None
-    if begun is None:
-        return False
-    places, sets = [begun[0]], []
-    while places[-1] not in places[:-1]:
-        made = after(a, circuit, places[-1], loop)
-        if made is None:
-            return False
-        places, sets = [*places, made[0]], [*sets, made[1]]
-    recurring = set().union(*sets[places.index(places[-1]):])
-    return not controllers.holds(controllers.condition(a.shape, a.sets), recurring)
+    sets = recurring(a, circuit, stem, loop) if kind == "REJECTED" and loop else None
+    return sets is not None and not is_accepting(a, sets)
 
 
 def changed(dice, text):
@@ -122,6 +141,46 @@ def printed_circuits(program):
     yield "random automata", why
 
 
+def parts_of(text):
+    """How many latches and gates a circuit has, by its text."""
+    numbers = text.split("\n")[0].split()
+    return int(numbers[3]) + int(numbers[5])
+
+
+def small(program, automaton):
+    """What `synth --small` answers: the first line, and the text of the circuit."""
+    ran = subprocess.run([program, "synth", "--small"], input=automaton, capture_output=True, timeout=120)
+    line, _, text = ran.stdout.decode().partition("\n")
+    return line, text
+
+
+def small_circuits(program):
+    """`synth --small` answers what `synth` does. Its circuits have no more latches and gates, and are accepted: by `verify`, and by a
+    search for a run that ends or is rejected."""
+    why, plain_parts, small_parts = None, 0, 0
+    for _, a, plain in random_circuits(program):
+        automaton = controllers.automaton_text(a).encode()
+        line, text = small(program, automaton)
+        verdict = asked(program, automaton, text.encode()) if line == "REALIZABLE" else None
+        if verdict != (0, b"ACCEPTED\n", b""):
+            why = why or f"{a!r}: {line}, {text!r}: {verdict}"
+            continue
+        rejected = controllers.why_rejected(a, controllers.Circuit(text))
+        why = why or (f"{a!r}: {text!r}: {rejected}" if rejected else None)
+        why = why or (f"{a!r}: {text!r} is larger than {plain!r}" if parts_of(text) > parts_of(plain) else None)
+        plain_parts, small_parts = plain_parts + parts_of(plain), small_parts + parts_of(text)
+    yield "random automata", why
+    yield "fewer latches and gates in all", small_parts < plain_parts, True
+    for path in sorted((TOP / "examples").glob("*.hoa")):
+        automaton = path.read_bytes()
+        wanted, _, plain = subprocess.run([program, "synth"], input=automaton, capture_output=True, timeout=60).stdout.decode().partition("\n")
+        line, text = small(program, automaton)
+        yield f"{path.name}: the answer", line, wanted
+        if line == "REALIZABLE":
+            yield f"{path.name}: verify", asked(program, automaton, text.encode()), (0, b"ACCEPTED\n", b"")
+            yield f"{path.name}: no larger", parts_of(text) <= parts_of(plain), True
+
+
 def forms(program):
     """Circuits in the binary form, with gates in another order, and with the line `REALIZABLE` ahead are read as well."""
     for name in ("arbiter", "lift", "traffic-light", "delay", "request-grant"):
@@ -146,13 +205,113 @@ def names(program):
     yield "inputs in the circuit's order", asked(program, two, b"aag 2 2 0 1 0\n2\n4\n5\ni0 s\ni1 r\no0 g\n")[1].split(b"\n")[0], b"STUCK"
 
 
+def random_environment(dice, a):
+    """The text of a circuit that plays the environment of the automaton: two latches, and no output that depends on an input."""
+    ins = [i for i, own in enumerate(a.controllable) if own]
+    outs = [i for i, own in enumerate(a.controllable) if not own]
+    first = 1 + len(ins)  # the variable of the first latch
+    latches, gates = [first, first + 1], range(first + 2, first + 6)
+    known = [0, *latches]  # what outputs may depend on
+    rows = []
+    for place, gate in enumerate(gates):
+        among = known if place < 2 else [*range(gate)]
+        rows.append((2 * gate, *sorted((2 * dice.choice(among) + dice.randrange(2) for _ in range(2)), reverse=True)))
+        known = [*known, gate] if place < 2 else known
+    nexts = [(2 * latch, dice.randrange(2 * gates[-1] + 2)) for latch in latches]
+    outputs = [(2 * dice.choice(known) + dice.randrange(2),) for _ in outs]
+    table = [("aag", gates[-1], len(ins), 2, len(outs), 4), *((2 * (1 + j),) for j in range(len(ins))), *nexts, *outputs, *rows]
+    symbols = [f"i{j} p{i}" for j, i in enumerate(ins)] + [f"o{j} p{i}" for j, i in enumerate(outs)]
+    return "".join(line + "\n" for line in [*(" ".join(map(str, row)) for row in table), *symbols])
+
+
+def is_answered(a, circuit):
+    """Whether the automaton accepts a run of a circuit that plays the environment: whether a cycle is accepted of whatever sets it meets."""
+    edges, waiting, seen = [], [(0, 0)], set()
+    while waiting:
+        here = waiting.pop()
+        if here in seen:
+            continue
+        seen.add(here)
+        for letter in range(2 ** len(circuit.inputs)):
+            made = after(a, circuit, here, [letter], True)
+            if made is not None:
+                edges.append((here, made[0], frozenset(made[1])))
+                waiting.append(made[0])
+    for size in range(a.sets + 1):
+        for allowed in itertools.combinations(range(a.sets), size):
+            left = [edge for edge in edges if edge[2] <= {*allowed}]
+            for part in controllers.components(seen, left):
+                inner = [sets for v, w, sets in left if v in part and w in part]
+                if inner and is_accepting(a, frozenset().union(*inner)):
+                    return True
+    return False
+
+
+def environments(program):
+    """A circuit that plays the environment refutes exactly if no run of it is accepted; else the controller's letters make one that is."""
+    dice, why, answered, refuted = random.Random(8), None, 0, 0
+    for _ in range(200):
+        a = controllers.random_automaton(dice)
+        text = random_environment(dice, a)
+        circuit = controllers.Circuit(text)
+        status, said, errors = asked(program, controllers.automaton_text(a).encode(), text.encode(), "--environment")
+        kind, *lines = said.decode().splitlines() or [""]
+        if is_answered(a, circuit):
+            answered += 1
+            stem, loop = word_of(lines)
+            is_wide = all(len(line) == len(circuit.inputs) for line in lines if line != LOOP)
+            sets = recurring(a, circuit, stem, loop, True) if kind == "FAILS" and loop and is_wide else None
+            is_right = sets is not None and is_accepting(a, sets)
+        else:
+            refuted += 1
+            is_right = said == b"REFUTES\n"
+        if status != 0 or errors or not is_right:
+            why = why or f"{a!r}, {text!r}: status {status}, {said!r}, {errors!r}"
+    yield "random automata and circuits", why
+    yield "some refute and some don't", min(answered, refuted) > 20, True
+
+
+def hears(circuit):
+    """Whether an output depends on an input of the same step."""
+    heard = {it // 2 for it in circuit.inputs}
+    for gate, operands in circuit.gates.items():
+        if heard.intersection(it // 2 for it in operands):
+            heard.add(gate // 2)
+    return any(it // 2 in heard for it in circuit.outputs)
+
+
+def counters(program):
+    """Where there is no controller, `synth --counter` prints a circuit that plays the environment: no output depends on an input of the same
+    step, and no run of it is accepted, by a search for one and by `verify --environment`. Else it prints what `synth` does."""
+    dice, why, refuted = random.Random(9), None, 0
+    for _ in range(150):
+        a = controllers.random_automaton(dice)
+        automaton = controllers.automaton_text(a).encode()
+        plain, counter = (subprocess.run([program, "synth", *words], input=automaton, capture_output=True, timeout=120) for words in ((), ("--counter",)))
+        line, _, text = counter.stdout.decode().partition("\n")
+        if line != "UNREALIZABLE":
+            why = why or (None if counter.stdout == plain.stdout else f"{a!r}: {counter!r}")
+            continue
+        refuted += 1
+        circuit = controllers.Circuit(text)
+        verdict = asked(program, automaton, text.encode(), "--environment")
+        if plain.stdout != b"UNREALIZABLE\n" or hears(circuit) or is_answered(a, circuit) or verdict != (0, b"REFUTES\n", b""):
+            why = why or f"{a!r}: {text!r}: {verdict!r}"
+    yield "random automata", why
+    yield "some have no controller", refuted > 20, True
+
+
 REFUSED = {
     "no names": (b"aag 1 1 0 1 0\n2\n2\n", "the inputs and outputs have no names; --by-place takes them in order"),
-    "an input that isn't there": (b"aag 0 0 0 1 0\n0\no0 g\n", "no input for proposition 0 of the inputs"),
-    "an output that isn't there": (b"aag 1 1 0 0 0\n2\ni0 r\n", "no output for proposition 0 of the outputs"),
-    "an input more": (b"aag 2 2 0 1 0\n2\n4\n2\ni0 r\ni1 tick\no0 g\n", "the circuit has an input more: input 1"),
-    "an output more": (b"aag 1 1 0 2 0\n2\n2\n3\ni0 r\no0 g\no1 h\n", "the circuit has an output more: output 1"),
-    "a name twice": (b"aag 2 2 0 1 0\n2\n4\n2\ni0 r\ni1 r\no0 g\n", "two inputs for proposition 0 of the inputs"),
+    "an input that isn't there": (b"aag 0 0 0 1 0\n0\no0 g\n", "the circuit has no input named r"),
+    "an output that isn't there": (b"aag 1 1 0 0 0\n2\ni0 r\n", "the circuit has no output named g"),
+    "an input more": (b"aag 2 2 0 1 0\n2\n4\n2\ni0 r\ni1 tick\no0 g\n", "the circuit has an input more: input 1, named tick"),
+    "an output more": (b"aag 1 1 0 2 0\n2\n2\n3\ni0 r\no0 g\no1 h\n", "the circuit has an output more: output 1, named h"),
+    "an input without a name": (b"aag 2 2 0 1 0\n2\n4\n2\ni0 r\no0 g\n", "input 1 has no symbol"),
+    "a name that isn't UTF-8": (b"aag 2 2 0 1 0\n2\n4\n2\ni0 r\ni1 gr\xf6\\e\no0 g\n", "the circuit has an input more: input 1, named gr\\xf6\\\\e"),
+    "a name in UTF-8": (b"aag 2 2 0 1 0\n2\n4\n2\ni0 r\ni1 \xc3\xb6\xe2\x82\xac\no0 g\n", "the circuit has an input more: input 1, named \u00f6\u20ac"),
+    "a circuit with nothing in it": (b"aag 0 0 0 0 0\n", "the circuit has no input named r"),
+    "a name twice": (b"aag 2 2 0 1 0\n2\n4\n2\ni0 r\ni1 r\no0 g\n", "two inputs are named r"),
     "a latch that starts at 1": (b"aag 2 1 1 1 0\n2\n4 2 1\n4\ni0 r\no0 g\n", "latch 0 does not start at 0"),
     "a variable that nothing defines": (b"aag 3 1 0 1 0\n2\n6\ni0 r\no0 g\n", "variable 3 of the circuit is used and not defined"),
     "a variable that is defined twice": (b"aag 3 1 0 1 2\n2\n4\n4 2 2\n4 3 2\ni0 r\no0 g\n", "variable 2 of the circuit is defined twice"),
@@ -162,17 +321,43 @@ REFUSED = {
 }
 
 
+def counter(modulus, bits=16):
+    """The text of a circuit without inputs whose latches count the steps up to a modulus, and whose output is low."""
+    gates = []
+
+    def both(x, y):
+        gates.append((2 * (1 + bits + len(gates)), x, y))
+        return gates[-1][0]
+
+    latches, carry, last, sums = [2 * (1 + i) for i in range(bits)], 1, 1, []
+    for i, latch in enumerate(latches):
+        last = both(last, latch ^ (1 ^ (modulus - 1) >> i & 1))
+        sums.append(both(both(latch, carry) ^ 1, both(latch ^ 1, carry ^ 1) ^ 1))
+        carry = both(latch, carry)
+    nexts = [both(it, last ^ 1) for it in sums]
+    rows = [("aag", bits + len(gates), 0, bits, 1, len(gates)), *zip(latches, nexts), (0,), *gates]
+    return "".join(" ".join(map(str, row)) + "\n" for row in rows) + "o0 g\n"
+
+
+def limits(program):
+    """A circuit that comes to 65,535 states is judged, and one that comes to a state more is too large; that it might is no matter."""
+    automaton = b'HOA: v1\nStart: 0\nAP: 1 "g"\ncontrollable-AP: 0\nAcceptance: 0 t\n--BODY--\nState: 0\n[t] 0\n--END--\n'
+    yield "65,535 states", asked(program, automaton, counter(65_535).encode()), (0, b"ACCEPTED\n", b"")
+    yield "65,536 states", refused(program, automaton, counter(65_536).encode()), (1, b"", b"parsolve: circuit and automaton too large together\n")
+    yield "1,000 states of 40 latches", asked(program, automaton, counter(1_000, bits=40).encode()), (0, b"ACCEPTED\n", b"")
+
+
 def refusals(program):
     """What is no circuit for the automaton is refused by one line, with status 1 and no output."""
     for name, (circuit, told) in REFUSED.items():
-        yield name, asked(program, AUTOMATON, circuit), (1, b"", f"parsolve: {told}\n".encode())
+        yield name, refused(program, AUTOMATON, circuit), (1, b"", f"parsolve: {told}\n".encode())
     status, output, errors = asked(program, AUTOMATON, b"aag 3 1 0 1 2\n2\n4\n4 6 2\n6 4 2\ni0 r\no0 g\n")
     is_told = re.fullmatch(rb"parsolve: the gate of variable [23] stands in a cycle\n", errors)
     yield "a cycle", None if (status, output) == (1, b"") and is_told else f"status {status}, {output!r}, {errors!r}"
     yield "an automaton that is none", asked(program, b"HOA: v2\n", WIRE)[:2], (1, b"")
-    yield "one input without a line --", subprocess.run([program, "verify"], input=AUTOMATON, capture_output=True).stderr, \
+    yield "one input without a line --", case.without_notes(subprocess.run([program, "verify"], input=AUTOMATON, capture_output=True).stderr), \
         b"parsolve: no line -- between the two texts\n"
     yield "one input", subprocess.run([program, "verify"], input=AUTOMATON + b"--\n" + WIRE, capture_output=True).stdout, b"ACCEPTED\n"
 
 
-Tests = case.tests(__name__, printed_circuits, forms, names, refusals)
+Tests = case.tests(__name__, printed_circuits, small_circuits, environments, counters, forms, names, limits, refusals)

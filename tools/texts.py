@@ -14,7 +14,7 @@ AUTOMATON_BLANKS, COMMENT_MARK = re.compile(rb"[\t\n\r ]*"), re.compile(rb"/\*|\
 
 
 class Fault(Exception):
-    """What is wrong, in the words that are told."""
+    """What is wrong, in the words that the user sees."""
 
 
 class Tokens:
@@ -87,7 +87,7 @@ def read_input(path):
 
 
 def of(path, read, *words):
-    """What `read` answers; a fault is told with the name of the input."""
+    """The answer of `read`; a fault gets the name of the input."""
     try:
         return read(*words)
     except Fault as fault:

@@ -1,10 +1,10 @@
 #!/usr/bin/env python3
 """Automata of any size, the same on every machine.
 
-    bench/automata.py STATES PROPOSITIONS SETS [SEED]      prints a deterministic automaton that is complete, with a parity
+    bench/random_automata.py STATES PROPOSITIONS SETS [SEED]      prints a deterministic automaton that is complete, with a parity
                                                            condition on its edges; the first half of the propositions is
                                                            controllable
-    bench/automata.py --labels BYTES PROPOSITIONS LITERALS [SEED]
+    bench/random_automata.py --labels BYTES PROPOSITIONS LITERALS [SEED]
                                                            prints an automaton of one state with so many bytes of edges that
                                                            lead back to it, whose labels are sums of so many literals,
                                                            or `f` with none
