@@ -1,19 +1,18 @@
 /* parsolve: parity games solved and checked in memory, by code whose answers are proved from the numbers that it is given to the numbers
  * that it writes. docs/library.md shows a program, and docs/promises.md says what is proved.
  *
- * A game is given in compressed sparse rows. It has a vertex for each priority, counted from 0. owners[v] is 0 (Even) or 1 (Odd), and the
- * successors of v are successors[starts[v]] to successors[starts[v + 1] - 1], in any order; a repeated one counts once. So `starts` has
- * one number more than `priorities`. Each vertex has a successor. A play is won by Even if the greatest priority that recurs is even.
+ * You pass a game in compressed sparse rows. It has a vertex for each priority; vertices count from 0. owners[v] is 0 (Even) or 1 (Odd), and
+ * the successors of v are successors[starts[v]] to successors[starts[v + 1] - 1], in any order; a repeated one counts once. So `starts` has
+ * one number more than `priorities`. Each vertex has a successor. Even wins a play if the greatest recurring priority is even.
  *
- * A caller owes this, which nothing checks:
- * - each pointer leads to as many numbers as the length with it says, aligned as their type wants, and isn't null, also where that is 0;
- * - what is written (by each pointer that isn't const) overlaps nothing else that is given; what isn't written may overlap;
- * - no other thread writes what is given, or reads what is written, while the call runs;
- * - malloc, realloc and free are of one allocator, as those of the C library are.
- * What is only written needn't be set before. Calls share nothing and keep nothing, so any number of threads may be in them at once.
- * They aren't for signal handlers, nor for the forked child of a process with threads. A call takes up to 24 kB of stack, however large
- * the game is, and nothing but the end of the process breaks it off: where signals are handled between calls, as Python does, they wait
- * until it returns. */
+ * The caller must ensure the following, which nothing checks:
+ * - each pointer points to as many numbers as its length says, is aligned for their type, and isn't null, even if the length is 0;
+ * - memory that a call writes (through pointers that aren't const) overlaps no other argument; memory that it only reads may overlap;
+ * - no other thread writes the arguments, or reads the outputs, while the call runs;
+ * - malloc, realloc and free belong to one allocator, as those of the C library do.
+ * You need not initialise memory that a call only writes. Calls share nothing and keep nothing, so any number of threads may call at once.
+ * Don't call from signal handlers, or from the forked child of a process with threads. A call takes up to 24 kB of stack, however large the
+ * game is. It can't be interrupted: a program that handles signals between calls, as Python does, handles them when the call returns. */
 #ifndef PARSOLVE_H
 #define PARSOLVE_H
 #include <stddef.h>
@@ -25,8 +24,8 @@ extern "C" {
 /* The version of this header, and of the library that was laid out with it. */
 #define PARSOLVE_VERSION "0.2.0"
 
-/* What a call answers. Those from PARSOLVE_LENGTHS to PARSOLVE_SUCCESSOR speak against a game, and the first that does is answered: the
- * lengths are looked at, then one vertex after the other, and of a vertex its priority, its owner and its successors. */
+/* The codes that calls return. Those from PARSOLVE_LENGTHS to PARSOLVE_SUCCESSOR are faults of a game. A call returns the first one: it looks
+ * at the lengths, then at one vertex after the other, and for each vertex at its priority, its owner and its successors. */
 enum {
     PARSOLVE_OK = 0,
     PARSOLVE_OUT_OF_MEMORY = 1,
@@ -54,7 +53,7 @@ static inline const char *parsolve_version(void) {
     return PARSOLVE_VERSION;
 }
 
-/* What a code says, in English. This is no call of the library: the text is in the header. */
+/* The meaning of a code, in English. This doesn't call the library: the texts are in the header. */
 static inline const char *parsolve_fault_text(uint32_t code) {
     switch (code) {
     case PARSOLVE_OK:
@@ -100,7 +99,7 @@ static inline const char *parsolve_fault_text(uint32_t code) {
     }
 }
 
-/* Stands in a strategy where nothing is chosen. */
+/* The number in a strategy for a vertex without a choice. */
 #define PARSOLVE_NO_CHOICE UINT32_MAX
 
 struct parsolve_numbers {
@@ -120,27 +119,27 @@ struct parsolve_game {
     struct parsolve_numbers successors;
 };
 
-/* Solves a game. PARSOLVE_OK: winners[v] is the player who wins from v, and strategy[v] the successor that this player goes to where it
- * owns v, else PARSOLVE_NO_CHOICE. Every play that follows the strategy is won by the winner of its first vertex. Both outputs have a
- * number for each vertex. PARSOLVE_LENGTHS to PARSOLVE_SOLUTION_LENGTHS, PARSOLVE_OUT_OF_MEMORY: the outputs are as they were, and
- * *vertex is the first vertex at fault, from PARSOLVE_PRIORITY to PARSOLVE_SUCCESSOR, else as it was. */
+/* Solves a game. PARSOLVE_OK: winners[v] is the player who wins from v, and strategy[v] the successor that this player moves to if it owns v,
+ * and otherwise PARSOLVE_NO_CHOICE. In every play that follows the strategy, the winner of its first vertex wins. Both outputs must have a
+ * number for each vertex. PARSOLVE_LENGTHS to PARSOLVE_SOLUTION_LENGTHS, PARSOLVE_OUT_OF_MEMORY: the outputs are as they were. *vertex is the
+ * first vertex at fault for the codes from PARSOLVE_PRIORITY to PARSOLVE_SUCCESSOR, and otherwise as it was. */
 uint32_t parsolve_solve(const struct parsolve_game *game, uint8_t *winners, size_t winners_length, uint32_t *strategy,
                         size_t strategy_length, uint32_t *vertex);
 
-/* What speaks against a solution. What isn't named with an answer is as it was. */
+/* The evidence against a solution. A call leaves the fields as they were that its answer doesn't name. */
 struct parsolve_found {
     uint32_t vertex;
     uint32_t to;
     size_t length;
 };
 
-/* Checks a solution, of whichever solver. strategy[v] counts where the winner of v owns it.
- * PARSOLVE_OK: exactly if the solution is sound.
- * PARSOLVE_LEAVES: from found->vertex an edge that follows the strategy leads to found->to, where another player wins: the least such.
- * PARSOLVE_CYCLE: on a cycle of found->length vertices that follows the strategy the greatest priority is the loser's. They stand at the
- * front of `cycle` if there is room, as there is with a number for each vertex; else `cycle` is as it was.
- * PARSOLVE_LENGTHS to PARSOLVE_CHOICE, PARSOLVE_OUT_OF_MEMORY: it wasn't checked. The faults of the game come first, then the lengths of
- * the solution, then the first bad winner, then the first bad choice. found->vertex is the vertex at fault, if the fault has one. */
+/* Checks a solution, no matter which solver made it. strategy[v] counts if the winner of v owns v.
+ * PARSOLVE_OK: the solution is sound; the call returns this if and only if it is.
+ * PARSOLVE_LEAVES: an edge that follows the strategy leads from found->vertex to found->to, where the other player wins: the least such edge.
+ * PARSOLVE_CYCLE: the greatest priority on a cycle that follows the strategy is the loser's. The cycle has found->length vertices, which are
+ * at the front of `cycle` if they fit, as they do if it has a number for each vertex of the game; otherwise `cycle` is as it was.
+ * PARSOLVE_LENGTHS to PARSOLVE_CHOICE, PARSOLVE_OUT_OF_MEMORY: the call checked nothing. The faults of the game come first, then the lengths
+ * of the solution, then the first bad winner, then the first bad choice. found->vertex is the vertex at fault, if the fault has one. */
 uint32_t parsolve_check(const struct parsolve_game *game, const uint8_t *winners, size_t winners_length, const uint32_t *strategy,
                         size_t strategy_length, struct parsolve_found *found, uint32_t *cycle, size_t cycle_length);
 
@@ -152,32 +151,36 @@ enum {
     PARSOLVE_COMMAND_GAME = 4,
     PARSOLVE_COMMAND_SYNTH = 5,
     PARSOLVE_COMMAND_SOLVE_ANY = 6, /* solve --any */
-    PARSOLVE_COMMAND_VERIFY = 7
+    PARSOLVE_COMMAND_VERIFY = 7,
+    PARSOLVE_COMMAND_SYNTH_SMALL = 8, /* synth --small */
+    PARSOLVE_COMMAND_AUTOMATON = 9,
+    PARSOLVE_COMMAND_MEANS = 10,
+    PARSOLVE_COMMAND_SYNTH_COUNTER = 11 /* synth --counter */
 };
 
-/* What `parsolve COMMAND` prints for an input. *written is the length of the text. Where there is too little room, the command has run for
- * that length only, and runs again in the next call.
- * PARSOLVE_OK: it stands at the front of `output`, whose rest is as it was.
- * PARSOLVE_FAULT: the command prints nothing, and the line that it tells on the error stream stands there.
- * PARSOLVE_TOO_SHORT: there is no room for the text; `output` is as it was.
- * PARSOLVE_COMMAND, exactly if there is no such command; PARSOLVE_OUT_OF_MEMORY: nothing was written, *written included. */
+/* Answers a command for an input. *written is the length of the text. If `output` is too short, the command has run just to find that length,
+ * and runs again in the next call.
+ * PARSOLVE_OK: the front of `output` holds what `parsolve COMMAND` prints; the rest is as it was.
+ * PARSOLVE_FAULT: the command prints nothing, and the front of `output` holds the line of its fault.
+ * PARSOLVE_TOO_SHORT: the text doesn't fit; `output` is as it was.
+ * PARSOLVE_COMMAND, if and only if there is no such command; PARSOLVE_OUT_OF_MEMORY: nothing was written, not even *written. */
 uint32_t parsolve_answer(uint32_t command, const uint8_t *input, size_t input_length, uint8_t *output, size_t output_length,
                          size_t *written);
 
-/* Bytes in memory of their own. */
+/* Bytes in memory that the library allocated. */
 struct parsolve_text {
     uint8_t *bytes;
     size_t bytes_length;
 };
 
-/* What such a text is set to before a call. */
+/* The value of such a text before a call. */
 #define PARSOLVE_NO_TEXT {(uint8_t *)"", 0}
 
-/* The same in memory of its own, so that the command runs once, however long the text is. *text has to be set before.
- * PARSOLVE_OK: it is what the command prints.
- * PARSOLVE_FAULT: the command prints nothing, and it is the line that it tells on the error stream.
- * PARSOLVE_COMMAND, exactly if there is no such command; PARSOLVE_OUT_OF_MEMORY: *text is as it was.
- * The bytes are the caller's then, who hands them to `free` of the C library where bytes_length isn't 0. */
+/* The same in memory that the library allocates, so the command runs once, however long the text is. Initialise *text before the call.
+ * PARSOLVE_OK: *text is what the command prints.
+ * PARSOLVE_FAULT: the command prints nothing, and *text is the line of its fault.
+ * PARSOLVE_COMMAND, if and only if there is no such command; PARSOLVE_OUT_OF_MEMORY: *text is as it was.
+ * The caller owns the bytes, and frees them with `free` of the C library if bytes_length isn't 0. */
 uint32_t parsolve_answer_new(uint32_t command, const uint8_t *input, size_t input_length, struct parsolve_text *text);
 
 #ifdef __cplusplus

@@ -1,5 +1,5 @@
-/* parsolve for C++11: vectors in, structs out, and exceptions, over the calls of parsolve.h, which says what a game in compressed sparse
- * rows is and what is answered. docs/library.md shows a program. */
+/* parsolve for C++11: vectors in, structs out, and exceptions, over the calls of parsolve.h, which explains games in compressed sparse rows and
+ * the codes that calls return. docs/library.md shows a program. */
 #ifndef PARSOLVE_HPP
 #define PARSOLVE_HPP
 #include <cstddef>
@@ -29,13 +29,13 @@ struct Game {
     }
 };
 
-/* The winner of each vertex, and where it goes on the vertices that it owns, else PARSOLVE_NO_CHOICE. */
+/* The winner of each vertex, and its move at the vertices that it owns; PARSOLVE_NO_CHOICE at the others. */
 struct Solution {
     std::vector<std::uint8_t> winners;
     std::vector<std::uint32_t> strategy;
 };
 
-/* What `check` says. PARSOLVE_LEAVES: an edge from `vertex` to `to`; PARSOLVE_CYCLE: the vertices of a cycle. */
+/* The verdict of `check`. PARSOLVE_LEAVES: an edge from `vertex` to `to`; PARSOLVE_CYCLE: the vertices of a cycle. */
 struct Verdict {
     std::uint32_t code; /* PARSOLVE_OK, PARSOLVE_LEAVES or PARSOLVE_CYCLE */
     std::uint32_t vertex;
@@ -43,7 +43,7 @@ struct Verdict {
     std::vector<std::uint32_t> cycle;
 };
 
-/* Why there is no answer: any other code but PARSOLVE_OUT_OF_MEMORY, of which std::bad_alloc is thrown. */
+/* Why a call has no answer: any other code except PARSOLVE_OUT_OF_MEMORY, for which the calls throw std::bad_alloc. */
 class Fault : public std::runtime_error {
   public:
     std::uint32_t code;
@@ -54,7 +54,7 @@ class Fault : public std::runtime_error {
 
 namespace detail {
 
-/* Where a vector lies; the pointer isn't null. */
+/* A pointer to the numbers of a vector, never null. */
 template <class T> inline T *at(std::vector<T> &numbers) {
     static T nothing;
     return numbers.empty() ? &nothing : numbers.data();
@@ -104,7 +104,7 @@ inline Verdict check(const Game &game, const Solution &solution) {
     return {code, found.vertex, found.to, cycle};
 }
 
-/* What `parsolve COMMAND` prints for a text; `command` is one of the numbers PARSOLVE_COMMAND_.. */
+/* Returns what `parsolve COMMAND` prints for a text; `command` is one of the numbers PARSOLVE_COMMAND_.. */
 inline std::string answer(std::uint32_t command, const std::string &text) {
     const std::vector<std::uint8_t> input(text.begin(), text.end());
     parsolve_text made = PARSOLVE_NO_TEXT;

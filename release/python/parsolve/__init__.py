@@ -1,5 +1,5 @@
-"""Parity games, solved and checked in this process by a library whose answers are proved, from the numbers that it is given to those
-that it writes.
+"""Solves and checks parity games in this process, with a library whose answers are proved, from the numbers that it reads to those that it
+writes.
 
     >>> import parsolve
     >>> game = parsolve.Game([2, 1], [1, 0], [[0, 1], [0, 1]])
@@ -10,10 +10,10 @@ that it writes.
     >>> parsolve.answer("solve", b"0 2 1 0,1;\\n1 1 0 0,1;\\n")
     b'paritysol 1;\\n0 0;\\n1 0 0;\\n'
 
-Numbers that lie in memory as C wants them, 32 bits each (8 the owners and winners), one behind the other, are taken without a copy: an
-`array.array`, an array of NumPy of `uint32` or `uint8`. No other thread may change them while a call runs. All others are copied, and
-what is no number, or is too large or negative, is refused by a `TypeError` or a `ValueError`. A call isn't interrupted: Ctrl-C waits
-until it has returned.
+The library reads numbers without a copy if they lie in memory as C has them: one after the other, 32 bits each, or 8 bits for owners and
+winners. An `array.array` does, and so does a NumPy array of `uint32` or `uint8`. No other thread may change them while a call runs. All
+other numbers are copied, and a value that is no number, too large or negative raises a `TypeError` or a `ValueError`. You can't interrupt a
+call: Ctrl-C takes effect when it returns.
 """
 from __future__ import annotations
 
@@ -27,7 +27,8 @@ from collections.abc import Iterable, Sequence
 
 __version__ = "0.2.0"
 NO_CHOICE = 0xFFFFFFFF
-COMMANDS = ("measure", "solve", "check", "replay", "game", "synth", "solve --any", "verify")
+COMMANDS = ("measure", "solve", "check", "replay", "game", "synth", "solve --any", "verify", "synth --small", "automaton",
+            "means", "synth --counter")
 KINDS = {"priorities": "I", "owners": "B", "starts": "I", "successors": "I", "winners": "B", "strategy": "I", "cycle": "I"}
 OK, OUT_OF_MEMORY, LEAVES, CYCLE, FAULT = 0, 1, 14, 15, 17
 TEXTS = {
@@ -47,7 +48,7 @@ TEXTS = {
 
 
 class ParsolveError(ValueError):
-    """Why there is no answer: the code of parsolve.h, and the vertex at fault or None."""
+    """Why a call has no answer: the code of parsolve.h, and the vertex at fault or None."""
 
     code: int
     vertex: int | None
@@ -65,7 +66,7 @@ class Wins:
 
 @dataclasses.dataclass(frozen=True)
 class Leaves:
-    """An edge that follows the strategy, to a vertex with another winner: the least."""
+    """The least edge that follows the strategy to a vertex with another winner."""
 
     source: int
     target: int
@@ -73,7 +74,7 @@ class Leaves:
 
 @dataclasses.dataclass(frozen=True)
 class Cycle:
-    """A cycle that follows the strategy, and that its winner loses."""
+    """A cycle that follows the strategy and that its winner loses."""
 
     vertices: list[int]
 
@@ -103,7 +104,7 @@ def _library():
 
 
 def _freeing():
-    """What frees a text that the library made: `free` of the C library, whose `malloc` it calls."""
+    """The function that frees a text of the library: `free` of the C library, whose `malloc` made it."""
     free = ctypes.CDLL(None).free
     free.argtypes, free.restype = [ctypes.c_void_p], None
     return free
@@ -113,7 +114,7 @@ _LIBRARY, _FREE = _library(), _freeing()
 
 
 def _fits(name, numbers):
-    """Whether numbers lie in memory in one row, each with the size that an array of this name has."""
+    """Whether numbers lie in memory one after the other, each with the size of an array of this name."""
     try:
         view = memoryview(numbers)
     except TypeError:
@@ -136,7 +137,7 @@ def _extend(made, name, numbers):
 
 
 def _numbers(name, numbers):
-    """The numbers as they are where they fit, and else a copy."""
+    """The numbers themselves if they fit, and otherwise a copy."""
     if _fits(name, numbers):
         return numbers
     made = array.array(KINDS[name])
@@ -145,8 +146,8 @@ def _numbers(name, numbers):
 
 
 def _passed(name, numbers):
-    """The pointer and the length of numbers, as two arguments, and what has to be kept till the call has returned. They are looked at
-    anew, and what can't be written or isn't aligned is copied, too."""
+    """The pointer and the length of numbers, as two arguments, and an object to keep until the call has returned. Numbers that are read-only
+    or not aligned are copied, too."""
     view = memoryview(_numbers(name, numbers))
     kept = ctypes.c_char.from_buffer(bytearray(view) or bytearray(8) if view.readonly or not view else view)
     if ctypes.addressof(kept) % view.itemsize:
@@ -178,14 +179,14 @@ class Game:
         self.starts, self.successors = _numbers("starts", starts), _numbers("successors", successors)
 
     def _passed(self):
-        """A pointer to the game, how many vertices it has, and what has to be kept."""
+        """A pointer to the game, its number of vertices, and an object to keep until the call has returned."""
         parts = [_passed(name, getattr(self, name)) for name, _ in _Game._fields_]
         game = _Game(*(_Slice(*part) for part, _ in parts))
         return ctypes.byref(game), game.priorities.length, (game, parts)
 
     def solve_arrays(self) -> tuple[Sequence[int], Sequence[int]]:
-        """The winners, an array of bytes, and the strategy, an array of numbers with NO_CHOICE where there is none; arrays of NumPy if
-        the priorities were given as one."""
+        """Returns the winners, an array of bytes, and the strategy, an array of numbers with NO_CHOICE for vertices without a choice. They are
+        NumPy arrays if the priorities are one."""
         game, count, _kept = self._passed()
         winners, strategy = array.array("B", bytes(count)), array.array("I", bytes(4 * count))
         vertex = ctypes.c_uint32(NO_CHOICE)
@@ -196,12 +197,12 @@ class Game:
         return (numpy.asarray(winners), numpy.asarray(strategy)) if is_numpy else (winners, strategy)
 
     def solve(self) -> tuple[list[int], list[int | None]]:
-        """The winner of each vertex, and where it goes on the vertices that it owns, else None."""
+        """Returns the winner of each vertex, and its move at the vertices that it owns, None at the others."""
         winners, strategy = self.solve_arrays()
         return winners.tolist(), [None if it == NO_CHOICE else it for it in strategy.tolist()]
 
     def check(self, winners: Iterable[int], strategy: Iterable[int | None]) -> Wins | Leaves | Cycle:
-        """Wins(), Leaves(..) or Cycle(..)."""
+        """Checks a solution: returns Wins(), Leaves(..) or Cycle(..)."""
         if not _fits("strategy", strategy):
             strategy = (NO_CHOICE if it is None else it for it in strategy)
         game, count, _kept = self._passed()
@@ -218,7 +219,7 @@ class Game:
 
 
 def _wants_ok(code, vertex=NO_CHOICE):
-    """Raises what any other code tells."""
+    """Raises the exception for any code except OK."""
     if code == OUT_OF_MEMORY:
         raise MemoryError
     if code != OK:
@@ -226,7 +227,7 @@ def _wants_ok(code, vertex=NO_CHOICE):
 
 
 def _taken(text):
-    """The bytes of a text that the library made, which is freed."""
+    """The bytes of a text of the library, which this frees."""
     try:
         return ctypes.string_at(text.bytes, text.bytes_length)
     finally:
@@ -235,7 +236,7 @@ def _taken(text):
 
 
 def answer(command: str, text: bytes) -> bytes:
-    """What `parsolve COMMAND` prints for a text, both bytes."""
+    """Returns what `parsolve COMMAND` prints for a text, both as bytes."""
     if command not in COMMANDS:
         raise ValueError(f"no command is named {command!r}; there are: {', '.join(COMMANDS)}")
     text = text if type(text) is bytes else bytes(memoryview(text))
