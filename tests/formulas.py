@@ -2,6 +2,7 @@
 and the place to which its end leads back; a letter is the set of the names that hold. What `automaton` prints accepts just the words that
 satisfy the formula, on words that are drawn. What `means` answers of automata that are printed, changed or drawn is so: on the word that
 tells them apart they differ as it says, and where it says SAME they agree on words that are drawn."""
+import json
 import random
 import subprocess
 import sys
@@ -255,6 +256,35 @@ def why_unsatisfied(dice, text, circuit_text):
     return None
 
 
+# automata: infinitely often a, always a, from some step on a, a b and a until then, nothing, and everything
+BUCHI = 'HOA: v1 Start: 0 AP: 2 "a" "b" Acceptance: 1 Inf(0) --BODY-- State: 0 '
+AGAIN, ALWAYS = BUCHI + "[0] 0 {0} [!0] 0 --END--", BUCHI + "[0] 0 {0} --END--"
+SETTLED = 'HOA: v1 Start: 0 AP: 2 "a" "b" Acceptance: 2 Inf(0) | Fin(1) --BODY-- State: 0 [0] 0 [!0] 0 {1} --END--'
+UNTIL = BUCHI + "[0&!1] 0 [1] 1 State: 1 [t] 1 {0} --END--"
+NOTHING = 'HOA: v1 Start: 0 AP: 1 "a" Acceptance: 0 f --BODY-- State: 0 [t] 0 --END--'
+EVERYTHING = "HOA: v1 Start: 0 AP: 0 Acceptance: 0 t --BODY-- State: 0 [t] 0 --END--"
+# each with a formula, and how what `means` answers begins and ends
+MEANT = [
+    (AGAIN, "G F a", "SAME\n", "SAME\n"), (AGAIN, "F G a", f"DIFFERS\n{ACCEPTS}\n", "\n"), (AGAIN, "G F (a | b)", f"DIFFERS\n{SATISFIES}\n", "\n"),
+    (ALWAYS, "G a", "SAME\n", "SAME\n"), (ALWAYS, "! F ! a", "SAME\n", "SAME\n"), (ALWAYS, "G (a & b)", f"DIFFERS\n{ACCEPTS}\n", "\n"),
+    (ALWAYS, "F a", f"DIFFERS\n{SATISFIES}\n", "\n"), (ALWAYS, "G (c | !c) & G a", "SAME\n", "SAME\n"),
+    (ALWAYS, "G c & G !a", "DIFFERS\n", "\n"), (SETTLED, "F G a", "SAME\n", "SAME\n"), (SETTLED, "G F a", f"DIFFERS\n{SATISFIES}\n", "\n"),
+    (UNTIL, "a U b", "SAME\n", "SAME\n"), (UNTIL, "b R (a | b)", f"DIFFERS\n{SATISFIES}\n", "\n"),
+    (UNTIL, "F b & (a W b)", "SAME\n", "SAME\n"), (UNTIL, "b M (b | a)", "SAME\n", "SAME\n"),
+    (UNTIL, "X (a U b)", f"DIFFERS\n{ACCEPTS}\n", "\n"), (NOTHING, "G !a & G !b", f"DIFFERS\n{SATISFIES}\n", "\n-\n"),
+    (NOTHING, "G (b & a & c)", f"DIFFERS\n{SATISFIES}\n", "\na b c\n"), (EVERYTHING, "F x", f"DIFFERS\n{ACCEPTS}\n", "\n-\n"),
+]
+
+
+def verdicts(program):
+    """What `means` answers of automata and formulas of which it can be told by hand; no more than sixteen names may be in both."""
+    for automaton, formula, begins, ends in MEANT:
+        status, said, _ = meant(program, automaton, formula)
+        yield f"{automaton}: {formula}", (status, said.startswith(begins), said.endswith(ends)), (0, True, True)
+    nine = 'HOA: v1 Start: 0 AP: 9 "a" "b" "c" "d" "e" "f" "g" "h" "i" Acceptance: 0 t --BODY-- State: 0 [t] 0 --END--'
+    yield "seventeen names in both", meant(program, nine, "&".join("jklmnopq")), (1, "", "parsolve: more than 16 propositions\n")
+
+
 # how operators bind, the loosest first; those of a row group to the right
 BINDING = [["->", "<->"], ["|"], ["xor"], ["&"], ["U", "R", "W", "M"]]
 
@@ -288,7 +318,19 @@ ALIKE = [
     ("[]a", "G a"), ("<>a", "F a"), ("a && b || !c", "(a & b) | !c"), ("a V b", "a R b"), ("a => b", "a -> b"), ("a <=> b", "a <-> b"),
     ("a ^ b", "a xor b"), ("~a", "!a"), ("true U a", "F a"), ("G a; F b;", "G a & F b"), ("\n\tG\n( a )", "G a"), ('"a" U "b"', "a U b"),
     ("a W b", "(a U b) | G a"), ("a M b", "b U (a & b)"), ("a R b", "!(!a U !b)"), ("XX a", "X X a"), ("GF a", "G F a"), ("1", "a | !a"),
+    ("a & b | c & d", "(a & b) | (c & d)"), ("a | b xor c & d", "a | (b xor (c & d))"), ("a <-> b -> c", "a <-> (b -> c)"),
+    ("a -> b <=> c", "a -> (b <-> c)"), ("a => b | c", "a -> (b | c)"), ("a | b -> c", "(a | b) -> c"), ("a U b & c U d", "(a U b) & (c U d)"),
+    ("a U b R c W d M e", "a U (b R (c W (d M e)))"), ("a U (b U c) U d", "a U ((b U c) U d)"), ("F a U G b", "(F a) U (G b)"),
+    ("X X a & b", "(X X a) & b"), ("GFa -> GFb", "(G (F a)) -> (G (F b))"), ("[]<>a", "G (F a)"), ("~!a", "a"), ("a\tU\r\nb", "a U b"),
+    ('"a" & a & "a b"', 'a & "a b"'), ("F1 & F_ & Fa", "F1 & (F_ & (F a))"), ("a; b | c -> d; e", "a & ((b | c) -> d) & e"),
+    ("1 & 0 | true & false", "0"), ("0", "a & !a"), ("!" * 4096 + "a", "a"),
 ]
+
+# the names of a formula, in the order in which they come; one that begins like an operator goes as far as it can
+NAMES_IN = {
+    "b & a & b": '"b" "a"', '"a" & a & "a b"': '"a" "a b"', '"U" U "G"': '"U" "G"', "F1 & F_ & Fa": '"F1" "F_" "a"', "X1U": '"X1U"',
+    "p0.q_1 U _x": '"p0.q_1" "_x"', "aUb": '"aUb"', "&".join("abcdefghijklmnop"): " ".join(f'"{it}"' for it in "abcdefghijklmnop"),
+}
 
 
 def spellings(program):
@@ -296,6 +338,9 @@ def spellings(program):
         automaton = translated(program, one)
         yield f"{one}: an automaton", (automaton.returncode, automaton.stderr), (0, b"")
         yield f"{one}: as {other}", meant(program, automaton.stdout.decode(), other), (0, "SAME\n", "")
+    for text, names in NAMES_IN.items():
+        lines = translated(program, text).stdout.decode().split("\n")
+        yield f"{text}: names", f"AP: {names.count(chr(34)) // 2} {names}" in lines, True
 
 
 REFUSED = {
@@ -307,6 +352,18 @@ REFUSED = {
     "a name in quotes without its end": ('a & "b', "syntax error at byte 4"),
     "seventeen names": (" & ".join(f"p{i}" for i in range(17)), "more than 16 propositions"),
     "4,097 operators": ("!" * 4097 + "a", "more than 4096 operators"),
+    "a semicolon behind 4,096 operators": ("!" * 4096 + "a;", "more than 4096 operators"),
+    "blanks alone": ("  ", "syntax error at byte 2"),
+    "two names": ("a b", "syntax error at byte 2"),
+    "several in brackets": ("(a; b)", "syntax error at byte 2"),
+    "a bracket that is closed alone": ("a)", "syntax error at byte 1"),
+    "a semicolon too many": ("a;;", "syntax error at byte 2"),
+    "no operator before a byte that begins no word": ("a b $", "syntax error at byte 2"),
+    "a byte that begins no word behind a formula": ("a & b $", "syntax error at byte 6"),
+    "a byte that begins no word before two names": ("a & $ b c", "syntax error at byte 4"),
+    "a name without a letter": ('a & ""', "syntax error at byte 4"),
+    "seventeen names before a byte that begins no word": ("&".join("abcdefghijklmnopq") + "$", "more than 16 propositions"),
+    "no operator before seventeen names": ("a&b&c&d&e&f g&h&i&j&k&l&m&n&o&p&q", "syntax error at byte 12"),
 }
 
 
@@ -328,4 +385,25 @@ def refusals(program):
     yield "status", [meant(program, automaton, text, "--status")[0] for text in ("G a", "F a")], [0, 10]
 
 
-Tests = case.tests(__name__, translations, changes, specifications, spellings, refusals)
+COUNTED = ("temporal operators", "states", "nodes beside the negation", "edges beside the negation", "nodes beside the formula",
+           "edges beside the formula")
+
+
+def counts_in(errors):
+    """The counts of a JSON line, without the seconds."""
+    return {name: number for name, number in json.loads(errors).items() if isinstance(number, int)}
+
+
+def figures(program):
+    """Both commands count the same of an automaton that is printed."""
+    # by hand: from the only state no word satisfies 0, and the complement's only state leads back to itself
+    yield "figures of 1", counts_in(translated(program, "1", "--json").stderr), dict(zip(COUNTED, (0, 1, 1, 0, 1, 1)))
+    for text in SPECIFICATIONS:
+        automaton = translated(program, text, "--json")
+        _status, _said, errors = meant(program, automaton.stdout.decode(), text, "--json")
+        found, looked_at = counts_in(automaton.stderr), counts_in(errors)
+        yield f"figures of {text}", found, looked_at
+        yield f"names of the figures of {text}", tuple(found), COUNTED
+
+
+Tests = case.tests(__name__, translations, changes, specifications, verdicts, spellings, refusals, figures)

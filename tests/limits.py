@@ -108,8 +108,9 @@ def automata():
     yield from (("HOA: v1 " + text, told) for text, told in COUNTS)
     yield from ((SIXTEEN + text, told) for text, told in TABLES)
     yield from NESTED
-    # a condition of a parity shape over as many sets as there can be, but for what stands behind it
+    # a condition of a parity shape over as many sets as there can be, and the same but for what stands behind it
     condition = "".join(f"Fin({odd}) & (Inf({odd - 1}) | (" for odd in range(4095, 1, -2)) + "Fin(1) & Inf(0)" + "))" * 2047
+    yield f"HOA: v1 Start: 0 Acceptance: 4096 {condition} --BODY-- State: 0 {{4095}} [t] 0 {{0}} --END--", None
     yield f"HOA: v1 Start: 0 Acceptance: 4096 {condition} & t --BODY-- --END--", "acceptance is not a supported parity condition"
 
 

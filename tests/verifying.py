@@ -8,13 +8,16 @@ import re
 import subprocess
 import sys
 import tempfile
+import tomllib
 
 import case
 import controllers
+import rows
 from case import TOP
 
 sys.path.insert(0, str(TOP / "tools"))
 from aiger import binary_of, read_circuit  # noqa: E402
+from automata import read_automaton  # noqa: E402
 
 LOOP = "loop"
 AUTOMATON = (b'HOA: v1\nStart: 0\nAP: 2 "r" "g"\ncontrollable-AP: 1\nAcceptance: 1 Inf(0)\n--BODY--\nState: 0\n'
@@ -154,31 +157,61 @@ def small(program, automaton):
     return line, text
 
 
+def plain_of(text):
+    """The automaton that a text spells, for a search for a run: its start is state 0."""
+    read = read_automaton(text)
+    number = {read.start: 0, 0: read.start}
+    controllable = [a in (read.controllable or ()) for a in range(len(read.propositions))]
+    foremost, parity, accepts_none = read.shape
+    shape = f"{foremost.__name__} {('even', 'odd')[parity]}" if foremost else "always" if accepts_none else "never"
+    steps = {}
+    for state, letter in itertools.product(read.states, range(2 ** len(controllable))):
+        step = read.step(state, letter)
+        if step is not None:
+            steps[number.get(state, state), letter] = (number.get(step[0], step[0]), sorted(step[1]))
+    return controllers.Automaton(read.count, controllable, read.sets, shape, steps)
+
+
+def why_not_small(program, a, automaton, plain):
+    """Why `synth --small` has no answer as it has to be where `synth` prints a circuit, or None; and the text of its circuit."""
+    line, text = small(program, automaton)
+    if line != "REALIZABLE":
+        return f"{automaton!r}: {line}", text
+    verdict = asked(program, automaton, text.encode())
+    rejected = controllers.why_rejected(a, controllers.Circuit(text))
+    if verdict != (0, b"ACCEPTED\n", b"") or rejected:
+        return f"{automaton!r}: {text!r}: {verdict}, {rejected}", text
+    return (f"{automaton!r}: {text!r} is larger than {plain!r}" if parts_of(text) > parts_of(plain) else None), text
+
+
+def kept_automata():
+    """The automata of the examples and of the rows of `synth` that name the controller's propositions, each with its name. What tools don't
+    read is left out."""
+    found = [(path.name, path.read_bytes()) for path in sorted((TOP / "examples").glob("*.hoa"))]
+    for row in tomllib.loads((TOP / "rows/synth.toml").read_text())["row"]:
+        if row.get("args") == ["synth"] and row.get("status", 0) == 0:
+            found.append((row["name"], rows.input_of(row)))
+    return [(name, text) for name, text in found if b"\ncontrollable-AP:" in text and b"spot-state-player" not in text]
+
+
 def small_circuits(program):
     """`synth --small` answers what `synth` does. Its circuits have no more latches and gates, and are accepted: by `verify`, and by a
-    search for a run that ends or is rejected."""
+    search for a run that ends or is rejected. So are circuits of the environment by `verify --environment`."""
     why, plain_parts, small_parts = None, 0, 0
-    for _, a, plain in random_circuits(program):
-        automaton = controllers.automaton_text(a).encode()
-        line, text = small(program, automaton)
-        verdict = asked(program, automaton, text.encode()) if line == "REALIZABLE" else None
-        if verdict != (0, b"ACCEPTED\n", b""):
-            why = why or f"{a!r}: {line}, {text!r}: {verdict}"
-            continue
-        rejected = controllers.why_rejected(a, controllers.Circuit(text))
-        why = why or (f"{a!r}: {text!r}: {rejected}" if rejected else None)
-        why = why or (f"{a!r}: {text!r} is larger than {plain!r}" if parts_of(text) > parts_of(plain) else None)
+    for _, a, plain in random_circuits(program, 100):
+        found, text = why_not_small(program, a, controllers.automaton_text(a).encode(), plain)
+        why = why or found
         plain_parts, small_parts = plain_parts + parts_of(plain), small_parts + parts_of(text)
     yield "random automata", why
     yield "fewer latches and gates in all", small_parts < plain_parts, True
-    for path in sorted((TOP / "examples").glob("*.hoa")):
-        automaton = path.read_bytes()
-        wanted, _, plain = subprocess.run([program, "synth"], input=automaton, capture_output=True, timeout=60).stdout.decode().partition("\n")
-        line, text = small(program, automaton)
-        yield f"{path.name}: the answer", line, wanted
+    for name, automaton in kept_automata():
+        ran = subprocess.run([program, "synth", "--counter"], input=automaton, capture_output=True, timeout=60)
+        line, _, plain = ran.stdout.decode().partition("\n")
         if line == "REALIZABLE":
-            yield f"{path.name}: verify", asked(program, automaton, text.encode()), (0, b"ACCEPTED\n", b"")
-            yield f"{path.name}: no larger", parts_of(text) <= parts_of(plain), True
+            yield name, why_not_small(program, plain_of(automaton), automaton, plain)[0]
+        elif line == "UNREALIZABLE":
+            yield f"{name}: the answer", small(program, automaton), ("UNREALIZABLE", "")
+            yield f"{name}: the environment", asked(program, automaton, plain.encode(), "--environment"), (0, b"REFUTES\n", b"")
 
 
 def forms(program):

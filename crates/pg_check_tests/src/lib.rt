@@ -1,13 +1,9 @@
-//! Tests of `pg_check`: solutions of maps, certificates and plays.
+//! Tests of `pg_check`: a solution of maps and what judges it, and a play.
 #![tactic(auto)]
 
-#[cfg(test)]
-mod certificates;
 #[cfg(test)]
 mod plays;
 #[cfg(test)]
 mod solutions;
 #[cfg(test)]
 mod tools;
-#[cfg(test)]
-mod verdicts;

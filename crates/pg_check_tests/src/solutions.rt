@@ -1,78 +1,71 @@
-//! Solutions of maps.
+//! Solutions of maps, what certifies and checks them, and solutions that are found at once. More verdicts are shown by the rows of `check`, and
+//! by `tests/checks.py`.
 
-use crate::tools::{Line, game_of, gives, least_map, leaves_undecided, three, top_map, two};
+ghost use Rattle.std.specs.Prelude.{◌≡◌, length};
+ghost use Rattle.pg_arena.specs.Games.{dual};
+ghost use Rattle.pg_text.specs.Solutions.{IsSolution};
+
+use crate::tools::{Line, game_of, is_closed, least_map, three};
 use pg_arena::Player::{Even, Odd};
-use pg_arena::dual;
-use pg_check::{CheckFault, find_solution};
+use pg_arena::{Game, dual};
+use pg_check::{CheckFault, Verdict, certifies, check, check_with, find_solution, strategies};
+use pg_map::MeasureMap;
+use pg_text::Solution;
+use std::alloc::Global;
 use std::test::Fail;
 
-#[test]
-fn even_wins_both_of_two(rt: HostRuntime) -> Result<(), Fail> {
-    let game = two(rt.alloc())?;
-    let other = dual(rt.alloc(), &game)?;
-    let even = least_map(rt.alloc(), &game)?;
-    let odd = least_map(rt.alloc(), &other)?;
-    assert!(rt;
-        gives(
-            rt.alloc(),
-            &game,
-            &other,
-            &even,
-            &odd,
-            &[(Even, Some(1)), (Even, None)]
-        )
-    );
-    Ok(())
+/// Whether the solution wins, and the maps certify it.
+fn is_certified(
+    alloc: Global,
+    game: &Game,
+    solution: &Solution,
+    even: &MeasureMap,
+    odd: &MeasureMap,
+) -> bool
+    requires solution { IsSolution game.now solution.now }
+    requires even_size { length even.now.measures ≡ length game.now }
+    requires odd_size { length odd.now.measures ≡ length game.now }
+{
+    let verdict = check_with(alloc, game, solution, even, odd);
+    certifies(game, solution, even, odd) && matches!(&verdict, Ok(Verdict::Wins))
+}
+
+/// Whether the solution wins.
+fn wins(alloc: Global, game: &Game, solution: &Solution) -> bool
+    requires { IsSolution game.now solution.now }
+{
+    let verdict = check(alloc, game, solution);
+    matches!(&verdict, Ok(Verdict::Wins))
+}
+
+/// Whether the maps of a game and of its dual are closed, and give a solution that they certify and that wins.
+fn give_what_wins(
+    alloc: Global,
+    game: &Game,
+    other: &Game,
+    even: &MeasureMap,
+    odd: &MeasureMap,
+) -> bool
+    requires { other.now ≡ dual game.now }
+{
+    if !is_closed(even, game) || !is_closed(odd, other) || odd.len() != even.len() {
+        return false;
+    }
+    match strategies(alloc, game, even, odd) {
+        Ok(solution) => {
+            is_certified(alloc, game, &solution, even, odd) && wins(alloc, game, &solution)
+        }
+        Err(_) => false,
+    }
 }
 
 #[test]
-fn each_player_wins_where_its_map_has_a_list(rt: HostRuntime) -> Result<(), Fail> {
+fn least_maps_give_and_certify_a_solution_that_wins(rt: HostRuntime) -> Result<(), Fail> {
     let game = three(rt.alloc())?;
     let other = dual(rt.alloc(), &game)?;
     let even = least_map(rt.alloc(), &game)?;
     let odd = least_map(rt.alloc(), &other)?;
-    let expected = [(Odd, Some(1)), (Odd, Some(1)), (Even, Some(2))];
-    assert!(rt; gives(rt.alloc(), &game, &other, &even, &odd, &expected));
-    Ok(())
-}
-
-#[test]
-fn undecided_names_the_least_identifier(rt: HostRuntime) -> Result<(), Fail> {
-    let game = three(rt.alloc())?;
-    let other = dual(rt.alloc(), &game)?;
-    let top = top_map(rt.alloc(), &game)?;
-    let odd = least_map(rt.alloc(), &other)?;
-    assert!(rt; leaves_undecided(rt.alloc(), &game, &other, &top, &odd, 30));
-    Ok(())
-}
-
-#[test]
-fn undecided_names_the_least_identifier_of_the_dual_too(rt: HostRuntime) -> Result<(), Fail> {
-    let game = three(rt.alloc())?;
-    let other = dual(rt.alloc(), &game)?;
-    let even = least_map(rt.alloc(), &game)?;
-    let top = top_map(rt.alloc(), &other)?;
-    assert!(rt; leaves_undecided(rt.alloc(), &game, &other, &even, &top, 10));
-    Ok(())
-}
-
-/// The first vertex has three successors that lead to themselves: an odd priority and two even ones.
-#[test]
-fn the_choice_is_the_first_that_serves(rt: HostRuntime) -> Result<(), Fail> {
-    let game = game_of(
-        rt.alloc(),
-        &[
-            Line(0, 0, Even, &[1, 2, 3]),
-            Line(1, 1, Even, &[1]),
-            Line(2, 0, Odd, &[2]),
-            Line(3, 0, Odd, &[3]),
-        ],
-    )?;
-    let other = dual(rt.alloc(), &game)?;
-    let even = least_map(rt.alloc(), &game)?;
-    let odd = least_map(rt.alloc(), &other)?;
-    let expected = [(Even, Some(2)), (Odd, None), (Even, None), (Even, None)];
-    assert!(rt; gives(rt.alloc(), &game, &other, &even, &odd, &expected));
+    assert!(rt; give_what_wins(rt.alloc(), &game, &other, &even, &odd));
     Ok(())
 }
 

@@ -1,10 +1,9 @@
-//! Tests of the commands: workers and links, streams that fail, lines of faults, circuits that are proposed, and the words of the command line.
+//! Tests of the commands: workers and links, streams that fail, circuits that are proposed, and the words of the command line. What each command
+//! answers, and the lines of faults, are shown by rows of the program.
 #![tactic(auto)]
 
 #[cfg(test)]
 mod failures;
-#[cfg(test)]
-mod faults;
 #[cfg(test)]
 mod links;
 #[cfg(test)]

@@ -111,15 +111,11 @@ fn sends(alloc: Global, values: &[u8]) -> Result<Fixed, Fail> {
     Ok(Fixed::new(alloc, frames(alloc, values, QUIET)?, 1))
 }
 
-/// Two links in memory, the second one to a worker that takes version 1 alone.
-fn memory_links(alloc: Global) -> Result<[MemoryLink; 2], Fail> {
-    Ok([MemoryLink::new(alloc)?, MemoryLink::limited(alloc, 1)?])
-}
-
+/// The second one is to a worker that takes version 1 alone.
 #[test]
 fn links_in_memory_may_be_given(rt: HostRuntime) -> Result<(), Fail> {
     let alloc = rt.alloc();
-    let mut links = memory_links(alloc)?;
+    let mut links = [MemoryLink::new(alloc)?, MemoryLink::limited(alloc, 1)?];
     let solve = Command::Solve { workers: 7 };
     assert!(rt; answers_over(alloc, solve, THREE, &mut links, WON));
     let measure = Command::Measure { workers: 0 };
@@ -137,28 +133,11 @@ fn a_link_that_sends_top_is_believed_by_measure(rt: HostRuntime) -> Result<(), F
 }
 
 #[test]
-fn a_link_that_tells_top_once_is_believed_by_measure(rt: HostRuntime) -> Result<(), Fail> {
-    let alloc = rt.alloc();
-    let mut links = [Told::new(alloc, frames(alloc, TOP, QUIET)?)];
-    let measure = Command::Measure { workers: 0 };
-    assert!(rt; answers_over(alloc, measure, TWO, &mut links, b"0 T;\n1 T;\n"));
-    Ok(())
-}
-
-#[test]
 fn a_link_that_tells_no_values_leaves_the_lifting(rt: HostRuntime) -> Result<(), Fail> {
     let alloc = rt.alloc();
     let mut links = [Told::new(alloc, frames(alloc, NONE, QUIET)?)];
     let measure = Command::Measure { workers: 0 };
     assert!(rt; answers_over(alloc, measure, TWO, &mut links, b"0 1;\n1 0;\n"));
-    Ok(())
-}
-
-#[test]
-fn where_both_maps_are_top_nothing_is_solved(rt: HostRuntime) -> Result<(), Fail> {
-    let alloc = rt.alloc();
-    let mut links = [sends(alloc, TOP)?];
-    assert!(rt; leaves_undecided(alloc, TWO, &mut links, 0));
     Ok(())
 }
 

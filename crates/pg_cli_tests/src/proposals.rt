@@ -2,11 +2,11 @@
 
 use pg_aiger::Gate;
 use pg_arena::Game;
-use pg_cli_command::{CliFault, Command, MOST_BYTES, Maps, Proposal, Solver, Untranslated, answer};
+use pg_cli_command::{CliFault, Command, MOST_BYTES, Proposal, Solver, Untranslated, answer};
 use pg_cli_in_one_piece::InOnePiece;
 use pg_hoa::Automaton;
 use pg_ltl::Formula;
-use pg_solver::Found;
+use pg_solver::{Found, Maps};
 use std::alloc::{AllocError, Global};
 
 /// Solves games in one piece, and proposes circuits and automata that are wrong, and one that is right if it is asked for.
@@ -147,81 +147,49 @@ State: 1\n[!0&!1] 1 {0}\n[!0&1] 2 {0}\nState: 2\n[0&!1] 1 {0}\n[0&1] 2 {0}\n--EN
 /// A request comes in the step after each step without a grant.
 const COUNTER: &[u8] = b"UNREALIZABLE\naag 2 1 1 1 0\n2\n4 3\n4\ni0 g\no0 r\n";
 
-/// What a command answers to an automaton; none if it fails.
+/// What a command comes to for a text, and what it prints.
 fn answered(
     alloc: Global,
     command: Command,
-    automaton: &[u8],
+    text: &[u8],
     is_right_too: bool,
-) -> Option<Vec<u8>> {
-    if automaton.len() > MOST_BYTES {
+) -> Option<(Result<(), CliFault>, Vec<u8>)> {
+    if text.len() > MOST_BYTES {
         return None;
     }
-    let text = automaton.to_vec(alloc).ok()?;
+    let text = text.to_vec(alloc).ok()?;
     let mut solver = Proposing { is_right_too };
     let mut output = Vec::new(alloc);
-    answer(alloc, command, text, &mut solver, &mut output).ok()?;
-    Some(output)
-}
-
-/// Whether `synth --small` prints these bytes.
-fn prints(alloc: Global, is_right_too: bool, wanted: &[u8]) -> bool {
-    let small = Command::SynthSmall { workers: 0 };
-    match answered(alloc, small, DELAY, is_right_too) {
-        Some(output) => output.as_slice() == wanted,
-        None => false,
-    }
-}
-
-/// What `automaton` comes to for `G F a`, and what it prints.
-fn translated(alloc: Global, is_right_too: bool) -> Option<(Result<(), CliFault>, Vec<u8>)> {
-    let formula: &[u8] = b"G F a";
-    if formula.len() > MOST_BYTES {
-        return None;
-    }
-    let Ok(text) = formula.to_vec(alloc) else {
-        return None;
-    };
-    let mut solver = Proposing { is_right_too };
-    let mut output = Vec::new(alloc);
-    let done = answer(alloc, Command::Automaton, text, &mut solver, &mut output);
+    let done = answer(alloc, command, text, &mut solver, &mut output);
     Some((done, output))
+}
+
+/// Whether the command prints these bytes.
+fn prints(alloc: Global, command: Command, text: &[u8], is_right_too: bool, wanted: &[u8]) -> bool {
+    let answered = answered(alloc, command, text, is_right_too);
+    matches!(&answered, Some((Ok(()), output)) if output.as_slice() == wanted)
 }
 
 #[test]
 fn a_wrong_automaton_is_never_printed(rt: HostRuntime) {
-    let alloc = rt.alloc();
-    match translated(alloc, false) {
-        Some((Err(CliFault::Unshown), output)) => assert!(rt; output.is_empty()),
-        _ => assert!(rt; false),
-    }
-    match translated(alloc, true) {
-        Some((Ok(()), output)) => assert!(rt; output.as_slice() == RECURRING),
-        _ => assert!(rt; false),
-    }
+    let (alloc, formula) = (rt.alloc(), b"G F a".as_slice());
+    let wrong = answered(alloc, Command::Automaton, formula, false);
+    assert!(rt; matches!(&wrong, Some((Err(CliFault::Unshown), output)) if output.is_empty()));
+    assert!(rt; prints(alloc, Command::Automaton, formula, true, RECURRING));
 }
 
 #[test]
 fn a_wrong_circuit_is_never_printed(rt: HostRuntime) {
-    let alloc = rt.alloc();
-    assert!(rt; prints(alloc, false, PLAIN));
-    assert!(rt; prints(alloc, true, SMALL));
-}
-
-/// Whether `synth --counter` prints these bytes.
-fn counters(alloc: Global, automaton: &[u8], is_right_too: bool, wanted: &[u8]) -> bool {
-    let counter = Command::SynthCounter { workers: 0 };
-    match answered(alloc, counter, automaton, is_right_too) {
-        Some(output) => output.as_slice() == wanted,
-        None => false,
-    }
+    let (alloc, small) = (rt.alloc(), Command::SynthSmall { workers: 0 });
+    assert!(rt; prints(alloc, small, DELAY, false, PLAIN));
+    assert!(rt; prints(alloc, small, DELAY, true, SMALL));
 }
 
 #[test]
 fn a_circuit_that_refutes_nothing_is_never_printed(rt: HostRuntime) {
-    let alloc = rt.alloc();
-    let counter = Command::SynthCounter { workers: 0 };
-    assert!(rt; answered(alloc, counter, FORESIGHT, false).is_none());
-    assert!(rt; counters(alloc, FORESIGHT, true, COUNTER));
-    assert!(rt; counters(alloc, DELAY, false, PLAIN));
+    let (alloc, counter) = (rt.alloc(), Command::SynthCounter { workers: 0 });
+    let wrong = answered(alloc, counter, FORESIGHT, false);
+    assert!(rt; matches!(&wrong, Some((Err(_), output)) if output.is_empty()));
+    assert!(rt; prints(alloc, counter, FORESIGHT, true, COUNTER));
+    assert!(rt; prints(alloc, counter, DELAY, false, PLAIN));
 }

@@ -1,8 +1,9 @@
-ghost use Rattle.pg_cli_words.specs.Words.{HasFewWorkers};
+//! Readers that fail or are interrupted, writers that fail, and texts for each command.
 
-use pg_cli::{CliFault, Command, MOST_BYTES, answer, exit_code, run, write_fault};
+use pg_cli::{Command, MOST_BYTES, answer, run};
 use std::alloc::Global;
 use std::io::{self, ErrorKind, Read, Write};
+use std::test::Fail;
 
 /// Gives a byte at a time; the read with this number fails with this kind of error.
 #[derive(Drop)]
@@ -74,70 +75,25 @@ State: 0 [0] 1 {0} State: 1 [!0] 0 {0} --END--";
 /// Its circuit: the latch is its own negation, and so is the output.
 pub(crate) const CIRCUIT: &[u8] = b"REALIZABLE\naag 1 0 1 1 0\n2 3\n3\no0 g\n";
 
-/// Whether a command answers an input by these bytes.
-pub(crate) fn answers(alloc: Global, command: Command, input: &[u8], answer: &[u8]) -> bool
-    requires { HasFewWorkers command }
-{
-    let mut input = input;
-    let mut output = Vec::new(alloc);
-    let done = run(alloc, command, &mut input, &mut output);
-    done.is_ok() && output.as_slice() == answer
-}
-
 #[test]
-fn each_command_answers(rt: HostRuntime) {
-    let (alloc, workers) = (rt.alloc(), 2);
-    assert!(rt; answers(alloc, Command::Measure { workers }, TWO, b"0 1;\n1 0;\n"));
-    let solution = b"paritysol 1;\n0 0 1;\n1 0;\n";
-    assert!(rt; answers(alloc, Command::Solve { workers }, TWO, solution));
-    assert!(rt; answers(alloc, Command::SolveAny { workers }, TWO, solution));
-    assert!(rt; answers(alloc, Command::Check, SOLVED, b"WINS\n"));
-    assert!(rt; answers(alloc, Command::Replay, SCRIPT, WORLD));
-    assert!(rt; answers(alloc, Command::Game, LOOP, GAME));
-    assert!(rt; answers(alloc, Command::Synth { workers }, TURNS, CIRCUIT));
-    assert!(rt; answers(alloc, Command::Synth { workers }, LOOP, b"UNREALIZABLE\n"));
-}
-
-/// Whether a command answers a text in memory by these bytes.
-fn answers_text(alloc: Global, command: Command, input: &[u8], wanted: &[u8]) -> bool
-    requires { HasFewWorkers command }
-{
-    if input.len() > MOST_BYTES {
-        return false;
-    }
-    let Ok(text) = input.to_vec(alloc) else {
-        return false;
-    };
-    matches!(&answer(alloc, command, text), Ok(output) if output.as_slice() == wanted)
-}
-
-#[test]
-fn a_text_in_memory_is_answered(rt: HostRuntime) {
-    let (alloc, workers) = (rt.alloc(), 2);
-    assert!(rt; answers_text(alloc, Command::Measure { workers }, TWO, b"0 1;\n1 0;\n"));
-    assert!(rt; answers_text(alloc, Command::Synth { workers }, TURNS, CIRCUIT));
-}
-
-/// What `measure` answers to a reader whose read with this number fails, and what was written.
-fn measured(alloc: Global, before: usize, kind: ErrorKind) -> (Result<(), CliFault>, Vec<u8>) {
-    let mut input = Failing {
-        left: TWO,
-        before,
-        kind,
-    };
-    let mut output = Vec::new(alloc);
-    let done = run(
-        alloc,
-        Command::Measure { workers: 2 },
-        &mut input,
-        &mut output,
-    );
-    (done, output)
+fn a_text_in_memory_is_answered(rt: HostRuntime) -> Result<(), Fail> {
+    let text = TWO.to_vec(rt.alloc())?;
+    assert!(rt; text.len() <= MOST_BYTES);
+    let done = answer(rt.alloc(), Command::Measure { workers: 2 }, text);
+    assert!(rt; matches!(&done, Ok(output) if output.as_slice() == b"0 1;\n1 0;\n".as_slice()));
+    Ok(())
 }
 
 /// Whether `measure` answers though the read with this number is interrupted.
 fn passes_interrupted_read(alloc: Global, before: usize) -> bool {
-    let (done, output) = measured(alloc, before, ErrorKind::Interrupted);
+    let mut input = Failing {
+        left: TWO,
+        before,
+        kind: ErrorKind::Interrupted,
+    };
+    let mut output = Vec::new(alloc);
+    let measure = Command::Measure { workers: 2 };
+    let done = run(alloc, measure, &mut input, &mut output);
     done.is_ok() && output.as_slice() == b"0 1;\n1 0;\n".as_slice()
 }
 
@@ -150,17 +106,4 @@ fn an_interrupted_read_is_tried_again(rt: HostRuntime) {
             "before {before}"
         );
     }
-}
-
-/// Whether the fault is told by this line.
-fn is_told(alloc: Global, fault: &CliFault, line: &[u8]) -> bool {
-    let mut output = Vec::new(alloc);
-    write_fault(fault, &mut output).is_ok() && output.as_slice() == line
-}
-
-#[test]
-fn a_fault_is_one_line(rt: HostRuntime) {
-    let line = b"parsolve: input is longer than 268435456 bytes\n";
-    assert!(rt; is_told(rt.alloc(), &CliFault::InputTooLong, line));
-    assert_eq!(rt; exit_code(&CliFault::InputTooLong), 1);
 }

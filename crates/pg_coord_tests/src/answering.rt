@@ -1,6 +1,6 @@
 //! Replies to a set-up of version 2: one report takes it, one refuses it, and each other is a failure of the link.
 
-use crate::tools::solves;
+use crate::tools::{game, solves};
 use pg_coord::{Link, LinkFault};
 use std::alloc::Global;
 use std::test::Fail;
@@ -47,27 +47,28 @@ impl Link for Answering {
     }
 }
 
+/// Reports by status and code, and how many rounds, restarts and links given up there are over a link that answers a set-up by them.
+static REPORTS: [(u8, u8, (u64, u64, u64)); 5] = [
+    (1, 0, (5, 0, 0)),
+    (2, 18, (5, 0, 0)),
+    (2, 5, (5, 3, 1)),
+    (1, 18, (5, 3, 1)),
+    (0, 0, (5, 3, 1)),
+];
+
 /// How many rounds, restarts and links given up there are, over a link that answers a set-up by this report.
 fn solves_answered(alloc: Global, status: u8, code: u8) -> Result<Option<(u64, u64, u64)>, Fail> {
     let mut links = [Answering {
         report: [0, 0, 0, 3, 5, status, code],
         is_setup: false,
     }];
-    solves(alloc, &mut links, 4096)
+    solves(alloc, &game(alloc)?, &mut links, 4096)
 }
 
 #[test]
-fn what_takes_or_refuses_version_2_is_no_failure(rt: HostRuntime) -> Result<(), Fail> {
-    for (status, code) in [(1, 0), (2, 18)] {
-        assert!(rt; solves_answered(rt.alloc(), status, code)? == Some((5, 0, 0)));
-    }
-    Ok(())
-}
-
-#[test]
-fn another_answer_to_version_2_fails(rt: HostRuntime) -> Result<(), Fail> {
-    for (status, code) in [(2, 5), (1, 18), (0, 0)] {
-        assert!(rt; solves_answered(rt.alloc(), status, code)? == Some((5, 3, 1)));
+fn what_neither_takes_nor_refuses_version_2_fails(rt: HostRuntime) -> Result<(), Fail> {
+    for (status, code, counts) in &REPORTS {
+        assert!(rt; solves_answered(rt.alloc(), *status, *code)? == Some(*counts));
     }
     Ok(())
 }

@@ -1,36 +1,37 @@
-//! Links in memory, and links in memory of which one call fails.
+//! Links in memory, without and with a limit of rounds, and links in memory of which one call fails.
 
-use crate::tools::solves;
+use crate::tools::{game, solves, solves_within};
 use pg_coord::MemoryLink;
-use pg_coord_links_tests::stand_ins::FailsOnce;
+use pg_coord_links_tests::stand_ins::{Broken, FailsOnce};
 use std::alloc::Global;
 use std::test::Fail;
 
 #[test]
 fn a_link_in_memory_does_the_lifting(rt: HostRuntime) -> Result<(), Fail> {
-    let alloc = rt.alloc();
-    let mut links = [MemoryLink::new(alloc)?];
-    assert!(rt; solves(alloc, &mut links, 4096)? == Some((2, 0, 0)));
+    let game = game(rt.alloc())?;
+    let mut links = [MemoryLink::new(rt.alloc())?];
+    assert!(rt; solves(rt.alloc(), &game, &mut links, 4096)? == Some((2, 0, 0)));
     Ok(())
 }
 
-/// Two links in memory, the first one to a worker that takes version 1 alone.
-fn unlike_links(alloc: Global) -> Result<[MemoryLink; 2], Fail> {
-    let first = MemoryLink::limited(alloc, 1)?;
-    let second = MemoryLink::new(alloc)?;
-    Ok([first, second])
-}
-
-/// Whether solving over these links gives top at both vertices, without a restart and with no link given up.
-fn solves_at_once(alloc: Global, links: &mut [MemoryLink]) -> Result<bool, Fail> {
-    let counts = solves(alloc, links, 4096)?;
-    Ok(matches!(counts, Some((_, 0, 0))))
+/// Whether rounds over these links are given up at once; they can be used all the same, and one round in which measures rise is enough.
+fn are_given_up_at_once(alloc: Global, links: &mut [MemoryLink]) -> Result<bool, Fail> {
+    let game = game(alloc)?;
+    let is_given_up = solves_within(alloc, &game, links, 0)?.is_none();
+    Ok(is_given_up && solves_within(alloc, &game, links, 1)? == Some((2, 0, 0)))
 }
 
 #[test]
-fn a_link_that_refuses_version_2_is_set_up_with_version_1(rt: HostRuntime) -> Result<(), Fail> {
-    let mut links = unlike_links(rt.alloc())?;
-    assert!(rt; solves_at_once(rt.alloc(), &mut links)?);
+fn rounds_are_given_up_past_their_limit(rt: HostRuntime) -> Result<(), Fail> {
+    let mut links = [MemoryLink::new(rt.alloc())?];
+    assert!(rt; are_given_up_at_once(rt.alloc(), &mut links)?);
+    Ok(())
+}
+
+#[test]
+fn rounds_without_links_are_given_up_where_there_is_a_limit(rt: HostRuntime) -> Result<(), Fail> {
+    let mut links: [Broken; 0] = [];
+    assert!(rt; solves_within(rt.alloc(), &game(rt.alloc())?, &mut links, 1)?.is_none());
     Ok(())
 }
 
@@ -43,7 +44,7 @@ fn failing_links(alloc: Global, n: u64) -> Result<[FailsOnce<MemoryLink>; 2], Fa
 
 /// Solves over the links with one lift a turn. Whether a call of the first was Failed.
 fn fails(alloc: Global, links: &mut [FailsOnce<MemoryLink>; 2]) -> Result<bool, Fail> {
-    let solved = solves(alloc, links, 1)?;
+    let solved = solves(alloc, &game(alloc)?, links, 1)?;
     let failed = links[0].has_failed();
     match solved {
         Some((_, restarts, 0)) if restarts == u64::from(failed) => Ok(failed),

@@ -1,6 +1,7 @@
 //! A link that tells its replies: what they say is taken, though it is more than the least progress measure.
 
-use crate::tools::{second_game, solves_game};
+use crate::tools::solves;
+use pg_arena::{Game, GameBuilder, Player};
 use pg_coord_links_tests::stand_ins::Told;
 use std::alloc::Global;
 use std::test::Fail;
@@ -19,34 +20,36 @@ const SECOND: [u8; 18] = [0, 0, 0, 14, 3, 0, 0, 0, 1, 0, 0, 0, 1, 0, 0, 0, 1, 1]
 /// The report that ends a reply: there is more to lift.
 const MORE: [u8; 7] = [0, 0, 0, 3, 5, 0, 0];
 
-/// Solves over a link that tells these frames: how many rounds, restarts and links given up there were, where that gives top
-/// at both vertices.
+/// The frames that a link tells, one after the other, and how many restarts there are where both vertices come to top by them: there is one
+/// where the last reply was handed over before.
+static TOLD: [(&[&[u8]], u64); 3] = [
+    (&[&BOTH, &MORE, &BOTH, &MORE], 0),
+    (&[&FIRST, &SECOND, &MORE, &MORE], 0),
+    (&[&BOTH, &MORE], 1),
+];
+
+/// The second game.
+fn second_game(alloc: Global) -> Result<Game, Fail> {
+    let mut builder = GameBuilder::new(alloc);
+    builder.add(0, 1, Player::Even, &[0, 1], None)?;
+    builder.add(1, 2, Player::Odd, &[0], None)?;
+    Ok(builder.finish()?)
+}
+
+/// How many rounds, restarts and links given up there are over a link that tells these frames, where both vertices come to top.
 fn solves_told(alloc: Global, frames: &[&[u8]]) -> Result<Option<(u64, u64, u64)>, Fail> {
     let mut replies = Vec::new(alloc);
     for frame in frames {
         replies.push(Vec::from_slice(alloc, frame)?)?;
     }
     let mut links = [Told::new(alloc, replies)];
-    solves_game(alloc, &second_game(alloc)?, &mut links, 4096)
+    solves(alloc, &second_game(alloc)?, &mut links, 4096)
 }
 
 #[test]
-fn takes_a_reply_in_each_round(rt: HostRuntime) -> Result<(), Fail> {
-    let frames: [&[u8]; 4] = [&BOTH, &MORE, &BOTH, &MORE];
-    assert!(rt; solves_told(rt.alloc(), &frames)? == Some((2, 0, 0)));
-    Ok(())
-}
-
-#[test]
-fn takes_a_reply_of_two_frames(rt: HostRuntime) -> Result<(), Fail> {
-    let frames: [&[u8]; 4] = [&FIRST, &SECOND, &MORE, &MORE];
-    assert!(rt; solves_told(rt.alloc(), &frames)? == Some((2, 0, 0)));
-    Ok(())
-}
-
-#[test]
-fn fails_past_the_last_reply(rt: HostRuntime) -> Result<(), Fail> {
-    let frames: [&[u8]; 2] = [&BOTH, &MORE];
-    assert!(rt; solves_told(rt.alloc(), &frames)? == Some((2, 1, 0)));
+fn what_is_told_is_taken(rt: HostRuntime) -> Result<(), Fail> {
+    for (frames, restarts) in &TOLD {
+        assert!(rt; solves_told(rt.alloc(), *frames)? == Some((2, *restarts, 0)));
+    }
     Ok(())
 }

@@ -1,14 +1,11 @@
-//! Tests of `pg_solver` and of what it stands on: `pg_map_ranks`, `pg_map_claims` and `pg_search`. Measures, ladders and claims were worked
-//! out by hand. That proposals for larger games are accepted is shown by `tests/certified.py`.
+//! Tests of `pg_measure`, `pg_map` and `pg_solver`, and of what stands between: `pg_map_ranks`, `pg_map_claims` and `pg_search`. Measures and
+//! claims were worked out by hand. Whatever is proposed, the measures are the least ones, as the contracts say; that proposals for larger games
+//! are accepted is shown by `tests/certified.py`.
 #![tactic(auto)]
 
 #[cfg(test)]
-mod certificates;
-#[cfg(test)]
-mod ladders;
+mod maps;
 #[cfg(test)]
 mod measures;
 #[cfg(test)]
 mod proposals;
-#[cfg(test)]
-mod tools;

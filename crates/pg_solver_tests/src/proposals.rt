@@ -1,112 +1,165 @@
-//! Games of which the measures were worked out by hand.
+//! Proposals that are certified, and others, which are refused, so that the game is lifted.
 
-ghost use Rattle.std.specs.Prelude.{IfOk};
-ghost use Rattle.pg_arena.specs.Games.{HasPrioritiesUpTo};
-
-use crate::tools::{alone, are_both_shown, game};
 use pg_arena::Player::{Even, Odd};
-use pg_arena::{ArenaFault, Game, MAX_PRIORITY};
-use std::alloc::Global;
+use pg_arena::{Game, GameBuilder, Player, Vertex};
+use pg_map_claims::{Claim, Claims, Proposal, Span};
+use pg_search::{propose, propose_measure};
+use pg_solver::{Found, Proposals, measure, solve};
+use std::alloc::{AllocError, Global};
 use std::test::Fail;
 
-/// Odd's vertex 0 goes to 1 first and comes back over 2, and then goes to 3.
-fn twice(alloc: Global) -> Result<Game, ArenaFault>
-    ensures { IfOk result (HasPrioritiesUpTo MAX_PRIORITY) }
-{
-    game(
+/// The game of these vertices: the priority of each, its owner and its successors.
+fn game(alloc: Global, vertices: &[(u32, Player, &[u32])]) -> Result<Game, Fail> {
+    let mut builder = GameBuilder::new(alloc);
+    let mut number = 0;
+    for (priority, owner, successors) in vertices {
+        builder.add(number, *priority, *owner, successors, None)?;
+        number = number.wrapping_add(1);
+    }
+    Ok(builder.finish()?)
+}
+
+/// Odd's vertex 0 goes to 1 first and comes back over 2, and then goes to 3. So the vertex 0 has a claim of each of two rows: one at 3, and one
+/// at both 3 and 1.
+static TWICE: [(u32, Player, &[u32]); 6] = [
+    (0, Odd, &[1, 3]),
+    (1, Even, &[2]),
+    (2, Even, &[0]),
+    (3, Even, &[4]),
+    (4, Even, &[4]),
+    (0, Even, &[0]),
+];
+
+/// Claims by vertices, ranks and places, the first place of each vertex, and the priorities and ends of an order.
+fn claims(
+    alloc: Global,
+    claims: &[(u32, u32, u32)],
+    firsts: &[u32],
+    spans: &[(u32, u32)],
+) -> Result<Claims, AllocError> {
+    let mut made = Claims {
+        claims: Vec::new(alloc),
+        firsts: Vec::from_slice(alloc, firsts)?,
+        spans: Vec::new(alloc),
+    };
+    for (v, rank, place) in claims {
+        made.claims.push(Claim {
+            vertex: Vertex(*v),
+            rank: *rank,
+            place: *place,
+        })?;
+    }
+    for (priority, end) in spans {
+        made.spans.push(Span {
+            priority: *priority,
+            end: *end,
+        })?;
+    }
+    Ok(made)
+}
+
+/// The proposal of these ranks over these steps.
+fn proposal(
+    alloc: Global,
+    steps: &[u32],
+    ranks: &[u32],
+    claims: Claims,
+) -> Result<Proposal, AllocError> {
+    Ok(Proposal {
+        steps: Vec::from_slice(alloc, steps)?,
+        ranks: Vec::from_slice(alloc, ranks)?,
+        hints: Vec::new(alloc),
+        claims,
+    })
+}
+
+/// Whether the proposal is certified; else the game is lifted.
+fn is_certified(
+    alloc: Global,
+    game: &Game,
+    proposal: Option<Proposal>,
+) -> Result<bool, AllocError> {
+    let found = measure(alloc, game, proposal)?;
+    Ok(matches!(&found, Found::Ranks(_)))
+}
+
+/// Whether the proposals for the game and its dual are certified; else both are lifted.
+fn are_certified(
+    alloc: Global,
+    game: &Game,
+    proposals: Option<Proposals>,
+) -> Result<bool, AllocError> {
+    let maps = solve(alloc, game, proposals)?;
+    Ok(matches!(
+        (&maps.of_game, &maps.of_dual),
+        (Found::Ranks(_), Found::Ranks(_))
+    ))
+}
+
+/// What is proposed of a game and its dual, but for the claims of the game.
+fn without_claims(alloc: Global, game: &Game) -> Result<Option<Proposals>, Fail> {
+    let mut proposals = propose(alloc, game)?;
+    if let Some(proposals) = &mut proposals {
+        proposals.of_game.claims.claims.clear();
+    }
+    Ok(proposals)
+}
+
+#[test]
+fn two_claims_of_one_vertex(rt: HostRuntime) -> Result<(), Fail> {
+    let alloc = rt.alloc();
+    let game = game(alloc, &TWICE)?;
+    let by_hand = claims(
         alloc,
         &[
-            (0, Odd, &[1, 3]),
-            (1, Even, &[2]),
-            (2, Even, &[0]),
-            (3, Even, &[4]),
-            (4, Even, &[4]),
-            (0, Even, &[0]),
+            (0, 1, 1),
+            (0, 2, 4),
+            (1, 2, 3),
+            (2, 1, 2),
+            (3, 1, 0),
+            (5, 2, 5),
         ],
-    )
-}
-
-// zeros, one at 3, and one at both 3 and 1; the vertex 0 has a claim of each of the last two
-#[test]
-fn odd_goes_elsewhere_when_it_comes_back(rt: HostRuntime) -> Result<(), Fail> {
-    let alloc = rt.alloc();
-    let game = twice(alloc)?;
-    let found = alone(alloc, &game)?;
-    assert!(rt; found.steps.as_slice() == [3, 1].as_slice());
-    assert!(rt; found.ranks.as_slice() == [2, 2, 1, 1, 0, 2].as_slice());
-    assert!(rt; found.claims.claims.len() >= 6);
-    assert!(rt; are_both_shown(alloc, &game)?);
+        &[0, 2, 3, 4, 0, 5],
+        &[(3, 0), (0, 1), (2, 2), (1, 3), (0, 4), (0, 5)],
+    )?;
+    let by_hand = proposal(alloc, &[3, 1], &[2, 2, 1, 1, 0, 2], by_hand)?;
+    assert!(rt; is_certified(alloc, &game, Some(by_hand))?);
     Ok(())
 }
 
-// Odd wins at 0, and counts nothing where it loses
+/// Odd stays at the odd priority for ever.
 #[test]
-fn top_and_zeros(rt: HostRuntime) -> Result<(), Fail> {
+fn claims_of_top(rt: HostRuntime) -> Result<(), Fail> {
     let alloc = rt.alloc();
     let game = game(
         alloc,
-        &[(1, Even, &[0]), (2, Odd, &[1]), (0, Even, &[0, 1])],
+        &[(0, Odd, &[0, 1]), (1, Odd, &[1, 2]), (2, Even, &[0, 2])],
     )?;
-    let found = alone(alloc, &game)?;
-    assert!(rt; found.steps.is_empty());
-    assert!(rt; found.ranks.as_slice() == [1, 0, 0].as_slice());
-    assert!(rt; are_both_shown(alloc, &game)?);
+    let by_hand = claims(
+        alloc,
+        &[(0, 1, 1), (1, 1, 0)],
+        &[0, 1, 0],
+        &[(1, 1), (0, 1)],
+    )?;
+    let by_hand = proposal(alloc, &[], &[1, 1, 0], by_hand)?;
+    assert!(rt; is_certified(alloc, &game, Some(by_hand))?);
     Ok(())
 }
 
-// all priorities are Odd's, who keeps going from everywhere
 #[test]
-fn top_everywhere(rt: HostRuntime) -> Result<(), Fail> {
+fn proposals_of_a_game_and_its_dual_are_certified(rt: HostRuntime) -> Result<(), Fail> {
     let alloc = rt.alloc();
-    let game = game(
-        alloc,
-        &[(3, Even, &[1]), (1, Odd, &[1, 2]), (5, Even, &[0, 1])],
-    )?;
-    let found = alone(alloc, &game)?;
-    assert!(rt; found.steps.is_empty());
-    assert!(rt; found.ranks.as_slice() == [1, 1, 1].as_slice());
-    assert!(rt; are_both_shown(alloc, &game)?);
+    let game = game(alloc, &TWICE)?;
+    assert!(rt; is_certified(alloc, &game, propose_measure(alloc, &game)?)?);
+    assert!(rt; are_certified(alloc, &game, propose(alloc, &game)?)?);
     Ok(())
 }
 
-// a way of three vertices of priority 1 to a loop that Even wins
 #[test]
-fn steps_along_a_way(rt: HostRuntime) -> Result<(), Fail> {
+fn what_is_refused_is_lifted(rt: HostRuntime) -> Result<(), Fail> {
     let alloc = rt.alloc();
-    let game = game(
-        alloc,
-        &[
-            (1, Odd, &[1, 3]),
-            (1, Even, &[2]),
-            (1, Odd, &[3]),
-            (2, Even, &[3]),
-        ],
-    )?;
-    let found = alone(alloc, &game)?;
-    assert!(rt; found.steps.as_slice() == [1, 1, 1].as_slice());
-    assert!(rt; found.ranks.as_slice() == [3, 2, 1, 0].as_slice());
-    assert!(rt; are_both_shown(alloc, &game)?);
-    Ok(())
-}
-
-// below the block of 4 the greatest step is that at 3
-#[test]
-fn hints_name_the_greatest_step_of_a_block(rt: HostRuntime) -> Result<(), Fail> {
-    let alloc = rt.alloc();
-    let game = game(
-        alloc,
-        &[
-            (4, Even, &[0]),
-            (1, Even, &[0]),
-            (3, Even, &[0]),
-            (1, Even, &[2]),
-            (5, Even, &[0]),
-        ],
-    )?;
-    let found = alone(alloc, &game)?;
-    assert!(rt; found.steps.as_slice() == [1, 3, 1, 5].as_slice());
-    assert!(rt; found.ranks.as_slice() == [0, 1, 2, 3, 4].as_slice());
-    assert_eq!(rt; found.hints.first().copied(), Some(1));
-    assert!(rt; are_both_shown(alloc, &game)?);
+    let game = game(alloc, &TWICE)?;
+    assert!(rt; !is_certified(alloc, &game, None)?);
+    assert!(rt; !are_certified(alloc, &game, without_claims(alloc, &game)?)?);
     Ok(())
 }

@@ -1,76 +1,139 @@
-//! Circuits of machines that follow solutions of the games of automata; automata and solutions were worked out by hand.
+//! The circuit of a machine that follows a solution of the game of an automaton, and its text. More are shown by the rows of `game` and of
+//! `synth`.
 
 ghost use Rattle.std.specs.Prelude.{◌≡◌, length};
 ghost use Rattle.pg_synth.specs.Letters.{inputs, outputs};
 
-use pg_aiger::{Circuit, circuit_of};
+use pg_aiger::{AigerFault, Circuit, circuit_of, write_circuit};
+use pg_arena::Vertex;
 use pg_check::{Verdict, check};
 use pg_hoa::{Automaton, read_automaton};
-use pg_synth::{game_of, mealy_of};
+use pg_synth::{Mealy, game_of, mealy_of};
 use pg_text::read_solution;
 use std::alloc::Global;
+use std::io;
 use std::test::Fail;
 
-/// An automaton, and the circuit of a machine whose words it accepts.
+/// Over r and g: g is what r was one step before, and false at first.
+const DELAY: &[u8] =
+    b"HOA: v1\nStates: 2\nStart: 0\nAP: 2 \"r\" \"g\"\ncontrollable-AP: 1\nAcceptance: 2 Fin(1) & Inf(0)\n\
+    --BODY--\nState: 0\n[!0&!1] 0 {0}\n[0&!1] 1 {0}\nState: 1\n[!0&1] 0 {0}\n[0&1] 1 {0}\n--END--\n";
+
+const SOLUTION: &[u8] = b"0 1 0; 1 0; 2 0; 4 0 2; 5 0 7; 7 0; 9 0 2; 10 0 7;";
+
+const TEXT: &[u8] =
+    b"aag 8 1 1 1 6\n2\n4 15\n17\n6 5 3\n8 5 2\n10 4 3\n12 4 2\n14 13 9\n16 13 11\ni0 r\no0 g\n";
+
+/// The automaton and its circuit.
 #[derive(Drop)]
-pub struct Made {
-    pub automaton: Automaton,
-    pub circuit: Circuit,
+struct Made {
+    automaton: Automaton,
+    circuit: Circuit,
     ghost as_many_inputs: { length circuit.inputs ≡ inputs automaton.controllable },
     ghost as_many_outputs: { length circuit.outputs ≡ outputs automaton.controllable },
 }
 
-/// The automaton, and the circuit of the machine by this solution, which has to be sound.
-fn made_of(alloc: Global, automaton: &[u8], solution: &[u8]) -> Result<Made, Fail> {
-    let automaton = read_automaton(alloc, automaton)?;
+/// Whether the machine has two states, of which each sets g as it is and goes to that of r.
+fn delays(machine: &Mealy) -> bool {
+    machine.inputs() == 1
+        && machine.outputs() == 1
+        && machine.states() == 2
+        && machine.step(0, 0) == (0, 0)
+        && machine.step(0, 1) == (0, 1)
+        && machine.step(1, 0) == (1, 0)
+        && machine.step(1, 1) == (1, 1)
+}
+
+fn delay(alloc: Global) -> Result<Made, Fail> {
+    let automaton = read_automaton(alloc, DELAY)?;
     let synth = game_of(alloc, &automaton)?;
-    let solution = read_solution(alloc, &synth.game, solution)?;
+    let solution = read_solution(alloc, &synth.game, SOLUTION)?;
     let Verdict::Wins = check(alloc, &synth.game, &solution)? else {
         return Err(Fail::from("the solution is not sound"));
     };
     let Some(machine) = mealy_of(alloc, &automaton, &synth, &solution)? else {
         return Err(Fail::from("Odd wins"));
     };
+    if synth.initial != Vertex(1) || !delays(&machine) {
+        return Err(Fail::from("another machine"));
+    }
     let circuit = circuit_of(alloc, &machine)?;
     Ok(Made { automaton, circuit })
 }
 
-/// Over r of the environment and g: g is what r is.
-pub fn agreeing(alloc: Global) -> Result<Made, Fail> {
-    made_of(
-        alloc,
-        b"HOA: v1\nStart: 0\nAP: 2 \"r\" \"g\"\ncontrollable-AP: 1\nAcceptance: 1 Inf(0)\n\
-            --BODY--\nState: 0\n[0&1 | !0&!1] 0 {0}\n--END--\n",
-        b"0 1 0; 1 0; 2 0; 3 0 2; 4 0 2;",
-    )
+/// Input letters, output letters and latches.
+static STEPS: [(u32, u32, u32); 5] = [(1, 0, 1), (0, 1, 0), (0, 0, 0), (1, 0, 1), (1, 1, 1)];
+
+/// Whether the circuit goes through these steps.
+fn goes(circuit: &Circuit) -> Result<bool, AigerFault> {
+    let mut bits = 0;
+    for (input, output, latches) in &STEPS {
+        if circuit.step(&mut bits, *input)? != *output || bits != *latches {
+            return Ok(false);
+        }
+    }
+    Ok(true)
 }
 
-/// Over g alone: it is true and false in turns.
-pub fn alternating(alloc: Global) -> Result<Made, Fail> {
-    made_of(
-        alloc,
-        b"HOA: v1\nStart: 0\nAP: 1 \"g\"\ncontrollable-AP: 0\nAcceptance: 1 Inf(0)\n\
-            --BODY--\nState: 0\n[0] 1 {0}\nState: 1\n[!0] 0 {0}\n--END--\n",
-        b"0 1 0; 1 0; 2 0; 3 0 5; 5 0; 6 0 2;",
-    )
+#[test]
+fn a_circuit_follows_its_machine(rt: HostRuntime) -> Result<(), Fail> {
+    let made = delay(rt.alloc())?;
+    assert!(rt; goes(&made.circuit)?);
+    Ok(())
 }
 
-/// Over r and g: g is what r was one step before, and false at first.
-pub fn delay(alloc: Global) -> Result<Made, Fail> {
-    made_of(
-        alloc,
-        b"HOA: v1\nStates: 2\nStart: 0\nAP: 2 \"r\" \"g\"\ncontrollable-AP: 1\nAcceptance: 2 Fin(1) & Inf(0)\n\
-            --BODY--\nState: 0\n[!0&!1] 0 {0}\n[0&!1] 1 {0}\nState: 1\n[!0&1] 0 {0}\n[0&1] 1 {0}\n--END--\n",
-        b"0 1 0; 1 0; 2 0; 4 0 2; 5 0 7; 7 0; 9 0 2; 10 0 7;",
-    )
+/// A writer that takes so many bytes and then fails.
+#[derive(Drop)]
+struct Full {
+    room: usize,
 }
 
-/// Over z and a, both of the controller: z is always true.
-pub fn named(alloc: Global) -> Result<Made, Fail> {
-    made_of(
-        alloc,
-        b"HOA: v1\nStart: 0\nAP: 2 \"z\" \"a\"\ncontrollable-AP: 1 0\nAcceptance: 1 Inf(0)\n\
-            --BODY--\nState: 0\n[0] 0 {0}\n--END--\n",
-        b"0 1 0; 1 0; 2 0; 3 0 2;",
-    )
+impl io::Write for Full {
+    fn write(&mut self, buf: &[u8]) -> io::Result<usize> {
+        if self.room < buf.len() {
+            return Err(io::Error::from(io::ErrorKind::WriteZero));
+        }
+        self.room -= buf.len();
+        Ok(buf.len())
+    }
+
+    fn flush(&mut self) -> io::Result<()> {
+        Ok(())
+    }
+}
+
+/// Whether the circuit has this text.
+fn has_text(alloc: Global, made: &Made, text: &[u8]) -> Result<bool, AigerFault> {
+    let mut written = Vec::new(alloc);
+    write_circuit(&made.circuit, &made.automaton, &mut written)?;
+    Ok(written.as_slice() == text)
+}
+
+/// Whether a writer that takes so many bytes doesn't take it.
+fn is_refused(made: &Made, room: usize) -> bool {
+    let mut full = Full { room };
+    write_circuit(&made.circuit, &made.automaton, &mut full) == Err(AigerFault::Write)
+}
+
+#[test]
+fn a_circuit_is_written_unless_the_writer_fails(rt: HostRuntime) -> Result<(), Fail> {
+    let made = delay(rt.alloc())?;
+    assert!(rt; has_text(rt.alloc(), &made, TEXT)?);
+    for room in 0..TEXT.len() {
+        assert!(rt; is_refused(&made, room), "{room}");
+    }
+    Ok(())
+}
+
+#[test]
+fn faults_have_their_texts(rt: HostRuntime) -> Result<(), Fail> {
+    for (fault, text) in [
+        (AigerFault::OutOfMemory, "out of memory"),
+        (AigerFault::TooLarge, "circuit too large"),
+        (AigerFault::Write, "cannot write the output"),
+    ] {
+        let printed = format!(in rt.alloc(); "{fault}")?;
+        assert_eq!(rt; printed.as_str(), text);
+    }
+    Ok(())
 }

@@ -1,17 +1,7 @@
-//! Tests of `pg_synth` and `pg_aiger`: the games of automata, machines and circuits, on texts that were worked out by hand.
+//! Tests of `pg_hoa`, `pg_synth` and `pg_aiger`: an automaton that is read, its game, a machine and its circuit. All were worked out by hand.
 #![tactic(auto)]
 
 #[cfg(test)]
-mod circuit_texts;
+mod automata;
 #[cfg(test)]
 mod circuits;
-#[cfg(test)]
-mod games;
-#[cfg(test)]
-mod machines;
-#[cfg(test)]
-mod steps;
-#[cfg(test)]
-mod texts;
-#[cfg(test)]
-mod writers;

@@ -1,13 +1,7 @@
-use crate::texts::{FRAMES, bytes_of};
-use pg_wire::{Frame, WireFault, decode};
+use crate::texts::bytes_of;
+use pg_wire::{WireFault, decode};
 use std::alloc::Global;
 use std::test::Fail;
-
-/// The frame that the text spells.
-fn frame_of(alloc: Global, text: &str) -> Result<Frame, Fail> {
-    let bytes = bytes_of(alloc, text)?;
-    Ok(decode(alloc, &bytes)?)
-}
 
 /// Why the bytes of the text are refused, if they are.
 fn fault_of(alloc: Global, text: &str) -> Result<Option<WireFault>, Fail> {
@@ -16,7 +10,7 @@ fn fault_of(alloc: Global, text: &str) -> Result<Option<WireFault>, Fail> {
 }
 
 /// Bytes that spell no frame, and why.
-static REFUSED: [(&str, WireFault); 48] = [
+static REFUSED: [(&str, WireFault); 49] = [
     // The length.
     ("01000001", WireFault::TooLong),
     ("ffffffff", WireFault::TooLong),
@@ -71,6 +65,10 @@ static REFUSED: [(&str, WireFault); 48] = [
     ),
     (
         "0000001a 02 00000001 00000000 00000001 00 00000002 00000001 00000001",
+        WireFault::BadField(26),
+    ),
+    (
+        "0000001a 02 00000001 00000000 00000001 00 00000002 00000001 00000000",
         WireFault::BadField(26),
     ),
     (
@@ -143,24 +141,6 @@ fn refuses_bytes_that_spell_no_frame(rt: HostRuntime) -> Result<(), Fail> {
     Ok(())
 }
 
-fn is_truncated_at_each_end(alloc: Global, bytes: &[u8]) -> bool {
-    for len in 0..bytes.len() {
-        if decode(alloc, &bytes[..len]).err() != Some(WireFault::Truncated) {
-            return false;
-        }
-    }
-    true
-}
-
-#[test]
-fn a_proper_prefix_is_truncated(rt: HostRuntime) -> Result<(), Fail> {
-    for text in &FRAMES {
-        let bytes = bytes_of(rt.alloc(), text)?;
-        assert!(rt; is_truncated_at_each_end(rt.alloc(), &bytes), "{text}");
-    }
-    Ok(())
-}
-
 /// Frames with fields at the ends of their ranges.
 static AT_ENDS: [&str; 12] = [
     "00000012 01 02 00100000 00000001 0000ffff ffffffff",
@@ -182,36 +162,5 @@ fn takes_the_ends_of_each_range(rt: HostRuntime) -> Result<(), Fail> {
     for text in &AT_ENDS {
         assert_eq!(rt; fault_of(rt.alloc(), text)?, None, "{text}");
     }
-    Ok(())
-}
-
-fn tells_the_line(frame: &Frame) -> bool {
-    let Frame::Vertices(vertices) = frame else {
-        return false;
-    };
-    let Some(line) = vertices.lines.as_slice().first() else {
-        return false;
-    };
-    line.vertex == 7
-        && line.priority == 259
-        && line.owner == 1
-        && line.successors.as_slice() == [9].as_slice()
-}
-
-fn tells_the_set_up(frame: &Frame) -> bool {
-    let Frame::Setup(setup) = frame else {
-        return false;
-    };
-    setup.version == 2
-        && setup.vertices == 258
-        && setup.bounds.as_slice() == [(3, 16_909_060)].as_slice()
-}
-
-#[test]
-fn reads_each_field(rt: HostRuntime) -> Result<(), Fail> {
-    let line = "00000016 02 00000001 00000007 00000103 01 00000001 00000009";
-    assert!(rt; tells_the_line(&frame_of(rt.alloc(), line)?));
-    let setup = "00000012 01 02 00000102 00000001 00000003 01020304";
-    assert!(rt; tells_the_set_up(&frame_of(rt.alloc(), setup)?));
     Ok(())
 }

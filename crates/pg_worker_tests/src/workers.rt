@@ -1,132 +1,94 @@
-//! Parts, values and lifts.
+//! A worker for vertex 0, which climbs by single lifts from `0,1` over `1,0` and `1,1` to top.
 
-use crate::tools::{
-    add, are, has, idle, is_bad, is_foreign, is_served, lifts_to, lifts_twice, passes, refuses,
-    rests, rises, stays, take_top, turns,
-};
+use crate::texts::{LINES, SETUP, bytes_of};
 use pg_arena::Vertex;
-use pg_map::View;
+use pg_map::{Update, View};
+use pg_measure::Measure;
+use pg_wire::{Frame, WireFault, decode};
 use pg_worker::{Worker, WorkerFault};
 use std::alloc::Global;
 use std::test::Fail;
 
-/// Whether a worker has the game's bounds, and an empty part and zeros after each call.
-fn has_no_part(worker: &mut Worker) -> bool {
-    worker.bounds().pairs() == [(3, 1), (1, 1)].as_slice()
-        && has(worker, false, false)
-        && worker.kept().is_empty()
-        && worker.lifted().is_empty()
-        && rests(worker)
-        && turns(worker, 5, true, &[])
-        && is_foreign(worker, 0)
-        && are(worker, View::List(&[0, 0]), View::List(&[0, 0]))
+/// The worker that a frame sets up.
+fn set_up(alloc: Global, frame: &Frame) -> Result<Worker, Fail> {
+    if !frame.is_well() {
+        return Err("the frame is well".into());
+    }
+    match frame {
+        Frame::Setup(setup) => Ok(Worker::new(alloc, setup)?),
+        _ => Err("the frame is a set-up".into()),
+    }
+}
+
+/// Adds the vertices of a frame.
+fn add_frame(worker: &mut Worker, frame: &Frame) -> Result<(), WorkerFault> {
+    match frame {
+        Frame::Vertices(vertices) if frame.is_well() => {
+            worker.add_vertices(vertices.lines.as_slice())
+        }
+        _ => Err(WorkerFault::Wire(WireFault::BadKind)),
+    }
+}
+
+/// The frame that the text spells.
+fn frame_of(alloc: Global, text: &str) -> Result<Frame, Fail> {
+    Ok(decode(alloc, &bytes_of(alloc, text)?)?)
+}
+
+/// Adds the line of vertex 0.
+fn add_line(alloc: Global, worker: &mut Worker) -> Result<(), Fail> {
+    let lines = frame_of(alloc, LINES)?;
+    Ok(add_frame(worker, &lines)?)
+}
+
+/// Whether the update raises vertex 0 to this measure.
+fn raises(update: &Update, to: View) -> bool {
+    update.vertex == Vertex(0) && update.measure.view() == to
+}
+
+/// Whether these are the measures of the two vertices.
+fn are(worker: &Worker, first: View, second: View) -> bool {
+    worker.len() == 2 && worker.get(Vertex(0)) == first && worker.get(Vertex(1)) == second
+}
+
+/// Whether vertex 0 climbs to `1,1` by one lift of each call that lifts.
+fn climbs(worker: &mut Worker) -> Result<bool, WorkerFault> {
+    let update = worker.lift(Vertex(0))?;
+    let lifted = worker.lift_some(1)?;
+    let is_quiet = worker.lift_turn(1);
+    Ok(
+        matches!(&update, Some(update) if raises(update, View::List(&[0, 1])))
+            && matches!(lifted.updates.as_slice(), [update] if raises(update, View::List(&[1, 0])))
+            && !lifted.quiet
+            && !is_quiet
+            && worker.lifted() == [Vertex(0)].as_slice()
+            && are(worker, View::List(&[1, 1]), View::List(&[0, 0])),
+    )
+}
+
+/// Whether top is taken for vertex 1, and nothing rises by it again; and vertex 0 ends at top.
+fn ends_at_top(alloc: Global, worker: &mut Worker) -> Result<bool, WorkerFault> {
+    let update = Update {
+        vertex: Vertex(1),
+        measure: Measure::top(alloc, worker.bounds())?,
+    };
+    let rises = worker.take(&update)?;
+    let rises_again = worker.take_value(1, View::Top)?;
+    let is_quiet = worker.lift_turn(9);
+    Ok(rises && !rises_again && is_quiet && are(worker, View::Top, View::Top))
+}
+
+/// Whether the worker, once it has the line of vertex 0, lifts and takes values as it has to.
+fn lifts_and_takes(alloc: Global, worker: &mut Worker) -> Result<bool, Fail> {
+    add_line(alloc, worker)?;
+    let is_part = worker.holds(Vertex(0)) && !worker.holds(Vertex(1));
+    Ok(is_part && climbs(worker)? && ends_at_top(alloc, worker)? && worker.kept().is_empty())
 }
 
 #[test]
-fn an_empty_part_rests(rt: HostRuntime) -> Result<(), Fail> {
-    let mut worker = idle(rt.alloc())?;
-    assert!(rt; has_no_part(&mut worker));
-    Ok(())
-}
-
-/// Whether vertex 0 alone climbs by 0,1; 1,0; 1,1 to top.
-fn climbs(worker: &mut Worker) -> bool {
-    has(worker, true, false)
-        && lifts_twice(worker, 0, View::List(&[0, 1]), View::List(&[1, 0]))
-        && turns(worker, 1, false, &[Vertex(0)])
-        && are(worker, View::List(&[1, 1]), View::List(&[0, 0]))
-        && turns(worker, 9, true, &[Vertex(0)])
-        && are(worker, View::Top, View::List(&[0, 0]))
-        && rests(worker)
-}
-
-#[test]
-fn one_vertex_climbs_to_top(rt: HostRuntime) -> Result<(), Fail> {
-    assert!(rt; passes(rt.alloc(), &[(0, 1)], climbs)?);
-    Ok(())
-}
-
-/// Whether one turn ends with top for both vertices.
-fn ends_at_top(worker: &mut Worker) -> bool {
-    turns(worker, 100, true, &[Vertex(0), Vertex(1)])
-        && are(worker, View::Top, View::Top)
-        && rests(worker)
-}
-
-#[test]
-fn a_part_of_all_ends_at_top(rt: HostRuntime) -> Result<(), Fail> {
-    assert!(rt; passes(rt.alloc(), &[(0, 1), (1, 3)], ends_at_top)?);
-    Ok(())
-}
-
-/// Whether single lifts raise both vertices to top, vertex 1 by way of 1,0.
-fn climbs_by_single_lifts(worker: &mut Worker) -> bool {
-    lifts_to(worker, 0, View::List(&[0, 1]))
-        && lifts_to(worker, 1, View::List(&[1, 0]))
-        && is_served(worker, 1)
-        && lifts_to(worker, 0, View::List(&[1, 0]))
-        && lifts_to(worker, 1, View::Top)
-        && lifts_to(worker, 0, View::List(&[1, 1]))
-        && lifts_to(worker, 0, View::Top)
-        && is_served(worker, 0)
-        && is_foreign(worker, 2)
-}
-
-#[test]
-fn single_lifts_touch_what_leads_there(rt: HostRuntime) -> Result<(), Fail> {
-    assert!(rt; passes(rt.alloc(), &[(0, 1), (1, 3)], climbs_by_single_lifts)?);
-    Ok(())
-}
-
-/// Whether vertex 1 alone is lifted to 1,0, and to top once top was taken for vertex 0.
-fn follows(alloc: Global, worker: &mut Worker) -> bool {
-    turns(worker, 5, true, &[Vertex(1)])
-        && take_top(alloc, worker, 0) == Ok(true)
-        && take_top(alloc, worker, 0) == Ok(false)
-        && are(worker, View::Top, View::List(&[1, 0]))
-        && turns(worker, 5, true, &[Vertex(1)])
-        && are(worker, View::Top, View::Top)
-        && is_foreign(worker, 0)
-}
-
-#[test]
-fn lifts_follow_what_was_taken(rt: HostRuntime) -> Result<(), Fail> {
-    let alloc = rt.alloc();
-    assert!(rt; passes(alloc, &[(1, 3)], |worker| follows(alloc, worker))?);
-    Ok(())
-}
-
-/// Whether values that don't fit are refused, and others joined.
-fn takes_what_fits(worker: &mut Worker) -> bool {
-    is_bad(worker, 0, View::List(&[0, 2]))
-        && is_bad(worker, 0, View::List(&[0]))
-        && is_bad(worker, 2, View::Top)
-        && are(worker, View::List(&[0, 0]), View::List(&[0, 0]))
-        && rises(worker, 1, View::List(&[1, 0]))
-        && stays(worker, 1, View::List(&[0, 1]))
-        && are(worker, View::List(&[0, 0]), View::List(&[1, 0]))
-}
-
-#[test]
-fn values_that_do_not_fit_are_refused(rt: HostRuntime) -> Result<(), Fail> {
-    assert!(rt; passes(rt.alloc(), &[(0, 1), (1, 3)], takes_what_fits)?);
-    Ok(())
-}
-
-/// Whether a worker for vertex 0 refuses vertices that don't rise or don't fit, and takes another then.
-fn adds_what_rises(alloc: Global, worker: &mut Worker) -> bool {
-    refuses(alloc, worker, &[(0, 1)], WorkerFault::Order)
-        && refuses(alloc, worker, &[(2, 1)], WorkerFault::BadUpdate)
-        && refuses(alloc, worker, &[(1, 5)], WorkerFault::BadUpdate)
-        && has(worker, true, false)
-        && add(alloc, worker, &[(1, 4)]).is_ok()
-        && has(worker, true, true)
-}
-
-#[test]
-fn vertices_rise_and_fit(rt: HostRuntime) -> Result<(), Fail> {
-    assert_eq!(rt; WorkerFault::BadUpdate.code(), 3);
-    let alloc = rt.alloc();
-    assert!(rt; passes(alloc, &[(0, 1)], |worker| adds_what_rises(alloc, worker))?);
+fn a_worker_lifts_its_part_and_takes_values(rt: HostRuntime) -> Result<(), Fail> {
+    let setup = frame_of(rt.alloc(), SETUP)?;
+    let mut worker = set_up(rt.alloc(), &setup)?;
+    assert!(rt; lifts_and_takes(rt.alloc(), &mut worker)?);
     Ok(())
 }

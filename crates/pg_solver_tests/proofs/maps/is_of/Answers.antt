@@ -3,7 +3,7 @@ use Rattle.std.specs.Prelude.{IsTrue, nat_eq}
 use Rattle.std.proofs.lemmas.Bool.Decides.{nat_tests}
 use Rattle.pg_map.specs.Lines.{AreWithin, game_line}
 use Rattle.pg_map.proofs.GameLines.{game_lines_within}
-use Rattle.pg_coord_tests.proofs.alone.is_of.Goals as goal
+use Rattle.pg_solver_tests.proofs.maps.is_of.Goals as goal
 
 equal : (a b : ℕ) → IsTrue (nat_eq a b) → a ≡ b
 equal a b h = grind (arith, nat_tests)

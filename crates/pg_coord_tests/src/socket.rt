@@ -4,34 +4,20 @@ use pg_coord::{Link, LinkFault, Reach, SocketLink};
 use std::alloc::Global;
 use std::test::Fail;
 
-/// Whether the link has no program before a frame is sent, and nothing to receive.
-fn is_idle<R: Reach>(link: &mut SocketLink<R>, frame: &mut Vec<u8>) -> bool {
-    link.receive(frame) == Err(LinkFault::Failed) && !link.has_program()
-}
-
-/// Whether no frame can be sent; the program is started for it exactly if it is there.
-fn fails_to_send<R: Reach>(link: &mut SocketLink<R>, is_there: bool) -> bool {
-    link.send(&[0, 0, 0, 1, 6]) == Err(LinkFault::Failed) && link.has_program() == is_there
-}
-
-/// Whether a link whose program was killed still has it, if it is there, but can neither receive nor be restarted.
-fn fails_once_killed<R: Reach>(
-    link: &mut SocketLink<R>,
-    frame: &mut Vec<u8>,
-    is_there: bool,
-) -> bool {
-    link.kill();
-    link.has_program() == is_there
-        && link.receive(frame) == Err(LinkFault::Failed)
-        && link.restart() == Err(LinkFault::Failed)
-}
-
-/// Whether each call fails, before the program is started and afterwards.
+/// Whether each call fails. No program is there before a frame is sent; it is started for that exactly if there is one, and once it was killed
+/// the link still has it.
 fn fails_each_call<R: Reach>(alloc: Global, link: &mut SocketLink<R>, is_there: bool) -> bool {
     let mut frame = Vec::new(alloc);
-    is_idle(link, &mut frame)
-        && fails_to_send(link, is_there)
-        && fails_once_killed(link, &mut frame, is_there)
+    let is_idle = link.receive(&mut frame) == Err(LinkFault::Failed) && !link.has_program();
+    let fails_to_send = link.send(&[0, 0, 0, 1, 6]) == Err(LinkFault::Failed);
+    let is_started = link.has_program() == is_there;
+    link.kill();
+    is_idle
+        && fails_to_send
+        && is_started
+        && link.has_program() == is_there
+        && link.receive(&mut frame) == Err(LinkFault::Failed)
+        && link.restart() == Err(LinkFault::Failed)
 }
 
 #[test]
