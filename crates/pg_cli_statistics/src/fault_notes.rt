@@ -125,7 +125,7 @@ fn plain_hint(command: Command, fault: &CliFault) -> Option<Hint> {
             "an automaton has at most 65535 states and 16777216 states times letters"
         }
         CliFault::Untranslated(Untranslated::TooManySteps) => {
-            "several small formulas are found sooner than one that joins them"
+            "the search ended at its limit of steps; a smaller formula may have an automaton within it"
         }
         CliFault::Means(MeansFault::TooLarge) => {
             "the product of automaton and formula has at most 16777216 edges"

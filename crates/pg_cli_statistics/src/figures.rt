@@ -9,6 +9,7 @@ use pg_arena::{Game, Vertex};
 use pg_cli_words::Command;
 use pg_hoa::{Automaton, read_automaton};
 use pg_ltl::{FormulaNode, Infix, Prefix, read_formula};
+use pg_means_texts::{ProductSizes, product_sizes};
 use pg_synth::game_of;
 use pg_text::read_game;
 use pg_verify::product_if_tied;
@@ -75,9 +76,13 @@ impl Watch {
 /// The figures of a command, those that it has.
 #[derive(Drop)]
 pub struct Figures {
+    /// The formula that an automaton is made of, for its products.
+    formula: Option<Vec<u8>>,
     /// The temporal operators of a formula.
     operators: Option<usize>,
     states: Option<u32>,
+    /// The products of an automaton and a formula.
+    products: Option<ProductSizes>,
     /// The states of the product of the automaton and a circuit.
     product: Option<u32>,
     sides: Option<Sides>,
@@ -230,8 +235,10 @@ fn size_of_game(alloc: Global, automaton: &Automaton) -> Option<Size> {
 /// The figures of a command's input: a formula, an automaton or a game.
 #[derive(Drop)]
 struct Counted {
+    formula: Option<Vec<u8>>,
     operators: Option<usize>,
     states: Option<u32>,
+    products: Option<ProductSizes>,
     product: Option<u32>,
     sides: Option<Sides>,
     size: Option<Size>,
@@ -290,17 +297,23 @@ impl Counted {
     /// What is counted of a command's input, in one text or two: of `verify` the game is that of the product.
     fn of(alloc: Global, command: Command, first: &[u8], second: &[u8]) -> Counted {
         let mut counted = Counted {
+            formula: None,
             operators: None,
             states: None,
+            products: None,
             product: None,
             sides: None,
             size: None,
         };
         match command {
-            Command::Automaton => counted.operators = operators_in(alloc, first),
+            Command::Automaton => {
+                counted.formula = Vec::from_slice(alloc, first).ok();
+                counted.operators = operators_in(alloc, first);
+            }
             Command::Means => {
                 counted.operators = operators_in(alloc, second);
                 counted.states = states_in(first);
+                counted.products = product_sizes(alloc, first, second).ok();
             }
             Command::Game
             | Command::Synth { .. }
@@ -352,8 +365,10 @@ impl Figures {
     ) -> Figures {
         let read = watch.lap(rt);
         let Counted {
+            formula,
             operators,
             states,
+            products,
             product,
             sides,
             size,
@@ -364,8 +379,10 @@ impl Figures {
         };
         watch.lap(rt);
         Figures {
+            formula,
             operators,
             states,
+            products,
             product,
             sides,
             size,
@@ -379,14 +396,20 @@ impl Figures {
     }
 
     /// What is counted of the answer, which is made and not written yet.
-    pub fn add_answer<R: Clock>(&mut self, rt: &R, command: Command, answer: &[u8]) {
+    pub fn add_answer<R: Clock + AllocGlobal>(&mut self, rt: &R, command: Command, answer: &[u8]) {
         self.answered = self.watch.lap(rt);
         match command {
             Command::Solve { .. } | Command::SolveAny { .. } => self.wins = Some(wins_in(answer)),
             Command::Synth { .. } | Command::SynthSmall { .. } | Command::SynthCounter { .. } => {
                 self.parts = parts_in(answer);
             }
-            Command::Automaton => self.states = states_in(answer),
+            Command::Automaton => {
+                self.states = states_in(answer);
+                self.products = match &self.formula {
+                    Some(formula) => product_sizes(rt.alloc(), answer, formula).ok(),
+                    None => None,
+                };
+            }
             Command::Measure { .. } => self.set_tops(tops_in(answer)),
             _ => (),
         }
@@ -424,7 +447,7 @@ impl Figures {
     }
 
     /// The counts by their names.
-    fn counts(&self) -> [(&'static str, Option<usize>); 10] {
+    fn counts(&self) -> [(&'static str, Option<usize>); 14] {
         let states = self.states.map(|states| states as usize);
         let (vertices, edges, priorities) = match self.size {
             Some(size) => (Some(size.vertices), Some(size.edges), Some(size.priorities)),
@@ -434,6 +457,8 @@ impl Figures {
             Some(wins) => (Some(wins.even), Some(wins.odd)),
             None => (None, None),
         };
+        let negation = self.products.map(|products| products.negation);
+        let formula = self.products.map(|products| products.formula);
         let (latches, gates) = match self.parts {
             Some(parts) => (Some(parts.latches), Some(parts.gates)),
             None => (None, None),
@@ -441,6 +466,10 @@ impl Figures {
         [
             ("temporal operators", self.operators),
             ("states", states),
+            ("nodes beside the negation", negation.map(|it| it.nodes)),
+            ("edges beside the negation", negation.map(|it| it.edges)),
+            ("nodes beside the formula", formula.map(|it| it.nodes)),
+            ("edges beside the formula", formula.map(|it| it.edges)),
             (
                 "states of the product",
                 self.product.map(|states| states as usize),

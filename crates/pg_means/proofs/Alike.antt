@@ -1,11 +1,12 @@
 -- The completed automaton accepts the same words.
-use Rattle.pg_means.proofs.Common.{◌≡◌, ◌↔◌, ℕ, zero, suc, ◌+◌, ◌*◌, ◌-◌, ◌/◌, ◌%◌, ◌<◌, ◌≤◌, ◌⊎◌, inl, inr, Bool, true, false, cond, eqb, List}
-use Rattle.pg_means.proofs.Common.{Option, Some, None, IsSome, is_some, arith, refl, sym, ap, subst, ◌∙◌, Contains, All, All-contains, cases_Bool}
-use Rattle.pg_means.proofs.Common.{IsStrictlyIncreasing, Shape, Step, Automaton, IsAutomaton, next, letters, Formula, holds, IsWord, IsAccepted}
-use Rattle.pg_means.proofs.Common.{FitsShape, SetRecurs, HoldsRecurring, step_from, step_at, sets_of, target_of, state_after, set_priority}
-use Rattle.pg_means.proofs.Common.{none_priority, not_not_collected, parity_of, HasSets, IsMet, deciding_cases, rank_rises, none_lowest, rank_parity}
-use Rattle.pg_means.proofs.Common.{none_parity, find_foremost, Meets, ListRecurs, foremost_rank, empty_rank, HasShape, shape_of_fits, state_in}
+use Rattle.pg_means.proofs.Common.{◌≡◌, ◌↔◌, ℕ, zero, suc, ◌+◌, ◌*◌, ◌-◌, ◌/◌, ◌%◌, ◌<◌, ◌≤◌, inl, inr, Bool, true, false, cond, eqb}
+use Rattle.pg_means.proofs.Common.{Option, Some, None, IsSome, is_some, arith, refl, sym, ap, subst, ◌∙◌, cases_Bool}
+use Rattle.pg_means.proofs.Common.{Step, Automaton, IsAutomaton, next, letters, Formula, holds, IsWord, IsAccepted}
+use Rattle.pg_means.proofs.Common.{FitsShape, SetRecurs, HoldsRecurring, step_from, step_at, sets_of, target_of, state_after}
+use Rattle.pg_means.proofs.Common.{not_not_collected, parity_of}
+use Rattle.pg_means.proofs.Common.{Meets, HasShape, shape_of_fits, state_in}
 use Rattle.pg_means.proofs.Common.{dead_on, halves, mod_below, pow_pos, length}
+use Rattle.pg_synth.proofs.Deciding.{even_iff, meets_by}
 use Rattle.pg_check.specs.Plays as plays
 use Rattle.pg_means_look.specs.Automata as complete
 use Rattle.pg_means_look.proofs.Ranking.{not_without}
@@ -13,40 +14,6 @@ use Rattle.pg_means.specs.Priorities.{state_code, target_code, step_priority, Is
 use Rattle.pg_means.specs.Verdicts.{IsWordOver, own_word}
 
 -- ---- what is met
-
-Matters : Shape → ℕ → List ℕ → ℕ → Type 0
-Matters shape n xs p =
-    (none_priority shape n ≤ p) × ((s : ℕ) → Contains xs s → set_priority shape n s ≤ p)
-    × ((p ≡ none_priority shape n) ⊎ ((s : ℕ) × Contains xs s × (p ≡ set_priority shape n s)))
-
-step_matters : (a : Automaton) (o : Option Step) → is_some (target_of o) ≡ true → IsStrictlyIncreasing (sets_of o)
-    → ((s : ℕ) → Contains (sets_of o) s → s < a.sets) → Matters a.shape a.sets (sets_of o) (step_priority a o)
-unfolding Matters
-step_matters a None some inc below = absurd (cc some)
-step_matters a (Some step) some inc below = elim (deciding_cases a.shape step.sets inc) [
-  | inl (e, none) ↦ rw e (omega arith, (λ s h. absurd (none s h)), inl refl)
-  | inr (s, e, f) ↦
-      let low : none_priority a.shape a.sets < set_priority a.shape a.sets s = none_lowest a.shape a.sets s (below s f.occurs) in
-      rw e (
-        omega arith,
-        (λ r h. rank_rises a.shape a.sets r s (below r h) (below s f.occurs) (f.first r h)),
-        inr (s, f.occurs, refl),
-      )
-]
-
-sets_good : (a : Automaton) (word : ℕ → ℕ) → IsAutomaton a → IsWord a word → (t : ℕ)
-    → All (λ s. s < a.sets) (sets_of (step_at a word t)) × IsStrictlyIncreasing (sets_of (step_at a word t))
-sets_good a word is letters_in t = go (state_after a word t) (state_in a word is letters_in t)
-  where
-    there : (q : ℕ) → q < a.states → (o : Option Step) → next a q (word t) ≡ o
-        → All (λ s. s < a.sets) (sets_of o) × IsStrictlyIncreasing (sets_of o)
-    there q below None e = ((λ k d l. absurd (omega arith)), λ k h. absurd (omega arith))
-    there q below (Some step) e = let g = is.steps q (word t) step below (letters_in t) e in (g.sets_below, g.sets_rise)
-
-    go : (o : Option ℕ) → ((q : ℕ) → o ≡ Some q → q < a.states)
-        → All (λ s. s < a.sets) (sets_of (step_from a o (word t))) × IsStrictlyIncreasing (sets_of (step_from a o (word t)))
-    go None h = ((λ k d l. absurd (omega arith)), λ k l. absurd (omega arith))
-    go (Some q) h = there q (h q refl) (next a q (word t)) refl
 
 -- what a play meets that is at an answer between any two arrivals
 between : (ℕ → ℕ) → ℕ → ℕ
@@ -81,45 +48,8 @@ between_greatest met p g = record {
 meets_between : (a : Automaton) (word : ℕ → ℕ) (met : ℕ → ℕ) → IsAutomaton a → IsWord a word
     → ((t : ℕ) → met t ≡ step_priority a (step_at a word t)) → ((t : ℕ) → IsSome (state_after a word t))
     → Meets a.shape a.sets (λ t. sets_of (step_at a word t)) (between met)
-unfolding Matters
-meets_between a word met is letters_in is_met endless = record {
-  in_range = λ t s h. below t s h;
-  over_none = λ t. (at t).0;
-  over_each = λ t s h. (at t).1 s h;
-  is_one = λ t. (at t).2;
-  answers = λ t. between_odd met t;
-}
-  where
-    below : (t s : ℕ) → Contains (sets_of (step_at a word t)) s → s < a.sets
-    below t s h = All-contains (λ x. x < a.sets) (sets_of (step_at a word t)) s (sets_good a word is letters_in t).0 h
-
-    at : (t : ℕ) → Matters a.shape a.sets (sets_of (step_at a word t)) (between met (2 * suc t))
-    at t = subst (Matters a.shape a.sets (sets_of (step_at a word t))) (sym (between_even met t ∙ is_met t))
-        (step_matters a (step_at a word t) (endless (suc t)) (sets_good a word is letters_in t).1 (below t))
-
-even_iff : (shape : Shape) (n : ℕ) (sets : ℕ → List ℕ) (met : ℕ → ℕ) (c : ℕ → Bool) (p : ℕ) → HasSets shape n
-    → Meets shape n sets met → plays.IsGreatestRecurring met p → ((r : ℕ) → r < n → (c r ≡ true) ↔ ListRecurs sets r)
-    → (p % 2 ≡ 0) ↔ IsMet shape n c
-even_iff shape n sets met c p has m g just = (to, from)
-  where
-    to : p % 2 ≡ 0 → IsMet shape n c
-    to even = elim (find_foremost shape c n) [
-      | inl none ↦ inr (
-        none,
-        (none_parity shape n has).0 (subst (λ x. x % 2 ≡ 0) (empty_rank shape n sets met c p m g just none) even),
-      )
-      | inr (s, f) ↦ inl (
-        s,
-        f,
-        (rank_parity shape n s has f.below).0 (subst (λ x. x % 2 ≡ 0) (foremost_rank shape n sets met c p s m g just f) even),
-      )
-    ]
-
-    from : IsMet shape n c → p % 2 ≡ 0
-    from (inl (s, f, par)) =
-        subst (λ x. x % 2 ≡ 0) (sym (foremost_rank shape n sets met c p s m g just f)) ((rank_parity shape n s has f.below).1 par)
-    from (inr (none, acc)) =
-        subst (λ x. x % 2 ≡ 0) (sym (empty_rank shape n sets met c p m g just none)) ((none_parity shape n has).1 acc)
+meets_between a word met is letters_in is_met endless =
+    meets_by a word (between met) is letters_in endless (λ t. between_even met t ∙ is_met t) (between_odd met)
 
 -- ---- the two runs
 

@@ -2,8 +2,8 @@
 use Rattle.pg_means.proofs.Common.{◌≡◌, ℕ, ◌+◌, ◌*◌, ◌/◌, ◌%◌, ◌^◌, ◌<◌, ◌≤◌, inl, inr, Bool, true, false, cond, ltb, List, length, Option, Some}
 use Rattle.pg_means.proofs.Common.{None, arith, refl, sym, ap, subst, ◌∙◌, All-contains, mod-mul-add, div-mul-add, mul-add-lt, mul_comm, nat_tests}
 use Rattle.pg_means.proofs.Common.{cases_lt, get_or_past, Shape, MaxEven, Step, Automaton, IsAutomaton, IsStepOf, next, letters, set_priority}
-use Rattle.pg_means.proofs.Common.{none_priority, deciding_cases, deciding, Contains, All, MinEven, MinOdd, MaxOdd, Always, Never, [], ◌∷◌, suc}
-use Rattle.pg_means.proofs.Common.{place_priority, arrival_of, first, last, step, mod_below, pow_pos, ◌++◌, length-append, get_or_append_left}
+use Rattle.pg_means.proofs.Common.{none_priority, deciding_cases, [], ◌∷◌}
+use Rattle.pg_means.proofs.Common.{place_priority, arrival_of, step, mod_below, pow_pos, ◌++◌, length-append, get_or_append_left}
 use Rattle.pg_means.proofs.Common.{get_or-append_seam}
 use Rattle.pg_means_look.specs.declared.automaton.Edge.{Edge}
 use Rattle.pg_means_look.specs.declared.automaton.ParityAutomaton.{ParityAutomaton}
@@ -87,28 +87,6 @@ completed_by a propositions b is as_many start long are = record {
           let e : edge_at b.edges.items place ≡ record { target = 0; priority = 0 } = get_or_past b.edges.items place (record { target = 0; priority = 0 }) past in
           let zero : (edge_at b.edges.items place).priority ≡ 0 = ap (λ (x : Edge). x.priority) e in omega arith
     ]
-
--- ---- the set that decides
-
-first_in : (xs : List ℕ) (s : ℕ) → first xs ≡ Some s → Contains xs s
-first_in [] s e = absurd (cc e)
-first_in (x ∷ xs) s e = (0, omega arith, (let same : x ≡ s = cc e in same))
-
-last_in : (xs : List ℕ) (s : ℕ) → last xs ≡ Some s → Contains xs s
-last_in [] s e = absurd (cc e)
-last_in (x ∷ []) s e = (0, omega arith, (let same : x ≡ s = cc e in same))
-last_in (x ∷ y ∷ ys) s e = let i = last_in (y ∷ ys) s e in (suc i.0, (let lt = i.1 in omega arith), i.2)
-
-deciding_in : (shape : Shape) (xs : List ℕ) (s : ℕ) → deciding shape xs ≡ Some s → Contains xs s
-deciding_in MinEven xs s e = first_in xs s e
-deciding_in MinOdd xs s e = first_in xs s e
-deciding_in MaxEven xs s e = last_in xs s e
-deciding_in MaxOdd xs s e = last_in xs s e
-deciding_in Always xs s e = last_in xs s e
-deciding_in Never xs s e = last_in xs s e
-
-pub deciding_below : (shape : Shape) (xs : List ℕ) (s bound : ℕ) → All (λ x. x < bound) xs → deciding shape xs ≡ Some s → s < bound
-deciding_below shape xs s bound all e = All-contains (λ x. x < bound) xs s all (deciding_in shape xs s e)
 
 pub edge_given : (a : Automaton) (q l target priority sets : ℕ) (shape : Shape) (met : List ℕ) → q < a.states
     → Some (step target met) ≡ next a q l → shape ≡ a.shape → sets ≡ a.sets

@@ -1,69 +1,19 @@
 //! The automaton as one in which each letter leads on from each state.
 
-ghost use Rattle.std.specs.Prelude.{◌≡◌, ◌==◌, ◌<◌, ◌≤◌, ◌^◌, ℕ, ◌+◌, ◌*◌, false, All, Some, IfOk, length, slice_index_or};
+ghost use Rattle.std.specs.Prelude.{◌≡◌, ◌==◌, ◌<◌, ◌≤◌, ◌^◌, ℕ, ◌+◌, ◌*◌, false, All, IfOk, length, slice_index_or};
 ghost use Rattle.std.specs.Int.{bit_at};
-ghost use Rattle.pg_hoa_automaton.specs.Automata.{step, deciding, letters};
-ghost use Rattle.pg_synth.specs.AutomatonGames.{place_priority, arrival_of, none_priority, set_priority};
+ghost use Rattle.pg_hoa_automaton.specs.Automata.{letters};
 ghost use Rattle.pg_means_look.specs.Mirrors.Tables.{truth_at};
 ghost use Rattle.pg_means_look.specs.Mirrors.Views.{automaton_of};
 ghost use Rattle.pg_means.specs.Priorities.{IsCompleted};
 ghost use Rattle.pg_means.specs.Verdicts.{holds_at};
 ghost use Rattle.pg_means.specs.Mirrors.Tables.{step_of, IsEdgeOf, AreEdges};
 
-use pg_hoa_automaton::{Automaton, Shape};
+use crate::fault::MeansFault;
+use pg_hoa_automaton::Automaton;
 use pg_means_look::{Edge, ParityAutomaton};
+use pg_synth::priority_of;
 use std::alloc::{AllocError, Global};
-
-/// The priority of a step by which no set is met.
-fn none_priority(shape: Shape, sets: u32) -> u32
-    requires { sets ≤ 4096 }
-    ensures { result ≡ none_priority shape sets }
-{
-    match shape {
-        Shape::MaxEven => 1,
-        Shape::MaxOdd => 0,
-        Shape::MinEven => sets % 2,
-        Shape::MinOdd => (sets + 1) % 2,
-        Shape::Always => 2,
-        Shape::Never => 1,
-    }
-}
-
-/// The priority of a step on which this set decides.
-fn set_priority(shape: Shape, sets: u32, set: u32) -> u32
-    requires few { sets ≤ 4096 }
-    requires below { set < sets }
-    ensures { result ≡ set_priority shape sets set }
-{
-    match shape {
-        Shape::MaxEven => set + 2,
-        Shape::MinEven => 2 * sets + 2 - set,
-        Shape::MinOdd => 2 * sets + 3 - set,
-        Shape::MaxOdd | Shape::Always | Shape::Never => set + 3,
-    }
-}
-
-/// The set of a step that counts under a shape.
-fn deciding(shape: Shape, sets: &[u32]) -> Option<u32>
-    ensures { result ≡ deciding shape sets.now }
-{
-    match shape {
-        Shape::MinEven | Shape::MinOdd => sets.first().copied(),
-        _ => sets.last().copied(),
-    }
-}
-
-/// The priority of a step that meets these sets, of so many.
-fn priority_of(shape: Shape, sets: u32, met: &[u32]) -> u32
-    requires few { sets ≤ 4096 }
-    requires below { All (λ s. s < sets) met.now }
-    ensures { (target : ℕ) → result ≡ place_priority shape sets (arrival_of shape (Some (step target met.now))) }
-{
-    match deciding(shape, met) {
-        None => none_priority(shape, sets),
-        Some(set) => set_priority(shape, sets, set),
-    }
-}
 
 /// Where the letter leads from a state, or from behind the last one.
 fn edge_of(automaton: &Automaton, state: u32, letter: u32) -> Edge
@@ -119,7 +69,7 @@ fn truths_of(alloc: Global, width: u32, proposition: u32) -> Result<Vec<bool>, A
 }
 
 /// How many letters there are over so many propositions.
-pub(crate) fn width_of(propositions: u32) -> u32
+fn width_of(propositions: u32) -> u32
     requires { propositions ≤ 16 }
     ensures value { result ≡ 2 ^ propositions }
     ensures some { 0 < result }
@@ -138,6 +88,9 @@ fn letters_of(automaton: &Automaton) -> u32
     1 << automaton.propositions()
 }
 
+/// How many states times letters there are at most.
+const MOST_STEPS: u64 = 16_777_216;
+
 /// The automaton over so many propositions, of which its own are the first, in which each letter leads on. `places` has for each
 /// proposition of a formula which one of them it is.
 pub(crate) fn completed(
@@ -145,17 +98,18 @@ pub(crate) fn completed(
     automaton: &Automaton,
     propositions: u32,
     places: &[u32],
-) -> Result<ParityAutomaton, AllocError>
+) -> Result<ParityAutomaton, MeansFault>
     requires few { propositions ≤ 16 }
-    requires small { (automaton.now.states + 1) * 2 ^ propositions < 2 ^ 32 }
     requires places { All (λ place. place < propositions) places.now }
     ensures completed { IfOk result (λ found. IsCompleted automaton.now propositions (automaton_of found)) }
     ensures truths { IfOk result (λ found. (letter p : ℕ) → letter < 2 ^ propositions
         → truth_at found.truths.items p letter ≡ holds_at places.now letter p) }
 {
-    // asked for what its contract says of the automaton
-    let _states = automaton.states();
+    let states = automaton.states();
     let width = width_of(propositions);
+    if states as u64 * width as u64 > MOST_STEPS {
+        return Err(MeansFault::TooLarge);
+    }
     let edges = edges_of(alloc, automaton, width)?;
     let mut truths = Vec::new(alloc);
     for place in places {

@@ -3,7 +3,9 @@
 
 mod completed;
 mod fault;
+mod size;
 mod verdict;
 
 pub use fault::MeansFault;
+pub use size::{ProductSizes, sizes};
 pub use verdict::{Verdict, means};

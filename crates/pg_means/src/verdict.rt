@@ -9,7 +9,7 @@ ghost use Rattle.pg_means_look.specs.Mirrors.Views.{automaton_of};
 ghost use Rattle.pg_means_look.specs.Mirrors.Places.{IsShown};
 ghost use Rattle.pg_means.specs.Verdicts.{Says};
 
-use crate::completed::{completed, width_of};
+use crate::completed::completed;
 use crate::fault::MeansFault;
 use pg_hoa_automaton::Automaton;
 use pg_ltl::{Formula, NormalForm, normal_form};
@@ -72,9 +72,6 @@ fn word_of(
     Err(MeansFault::Undecided)
 }
 
-/// How many states times letters there are at most.
-const MOST_STEPS: u64 = 16_777_216;
-
 /// Whether the automaton accepts exactly the words over so many propositions, of which its own are the first, that satisfy the formula.
 /// `places` has for each proposition of the formula which one of all it is; one that isn't there never holds.
 pub fn means(
@@ -89,11 +86,8 @@ pub fn means(
     ensures { IfOk result (λ verdict. (condition : conditions.Formula) → FitsShape condition automaton.now.sets automaton.now.shape
         → Says automaton.now condition propositions places.now (written formula.now) verdict) }
 {
-    let letters = width_of(propositions);
-    let states = automaton.states();
-    if states as u64 * letters as u64 > MOST_STEPS {
-        return Err(MeansFault::TooLarge);
-    }
+    // asked for what its contract says of the automaton
+    let _states = automaton.states();
     let complete = completed(alloc, automaton, propositions, places)?;
     let no = normal_form(alloc, formula, false)?;
     if let Some(lasso) = word_of(alloc, &complete, &no, 0)? {

@@ -1,8 +1,6 @@
 -- The product that a certificate describes: edges, and the choices of a node.
-use Rattle.std.proofs.Common.{◌≡◌, ℕ, ◌+◌, ◌*◌, ◌%◌, ◌<◌, List, [], ◌∷◌, length, ap, sym, subst, ◌∙◌}
+use Rattle.std.proofs.Common.{◌≡◌, ℕ, ◌+◌, ◌*◌, ◌%◌, ◌<◌, List, [], ◌∷◌, length, get_or, ap, sym, subst, ◌∙◌}
 use Rattle.std.specs.Prelude.{All, Contains}
-use Rattle.std.specs.declared.vec.Vec.{Vec}
-use Rattle.std.specs.declared.alloc.Global.{Global}
 use Rattle.pg_ltl.specs.NormalForms.{NormalForm}
 use Rattle.pg_ltl.specs.Tableaux.{choices_of}
 use Rattle.pg_means_look.specs.declared.automaton.Edge.{Edge}
@@ -13,7 +11,9 @@ use Rattle.pg_means_look.specs.declared.choice.Choice as choice
 use Rattle.pg_means_look.specs.Certificates.{IsFine, Goes}
 use Rattle.pg_means_look.specs.Mirrors.Tables.{edge_at, row_at, truth_at}
 use Rattle.pg_means_look.specs.Mirrors.Choices.{part, parts, choice_of, choices_in, AreCovered}
-use Rattle.pg_means_look.specs.Mirrors.Views.{automaton_of, certificate_of, node_at, AreChoices, GoesEach, GoesAt, StartsAt}
+use Rattle.pg_means_look.specs.Mirrors.Views.{automaton_of, certificate_of, node_at, GoesEach, GoesAt, StartsAt}
+use Rattle.pg_means_look.specs.declared.pool.Pooled.{Pooled}
+use Rattle.pg_means_look.specs.Mirrors.Pools.{list_at, AreNumbers}
 use Rattle.pg_means_look.proofs.Covering.{within_parts}
 use Rattle.pg_means_look.proofs.Ranking.{pruning}
 use Rattle.pg_means_look.proofs.Steps.{within_same}
@@ -39,14 +39,14 @@ goes_to a c forms parity v l to x from next edge set asks puts is_from is_next i
           (subst (λ (ps : List ℕ). IsFine (certificate_of forms c) p edge.priority (parts forms ps) v to) is_puts (fine forms p good));
     }
 
-pub going : (a : ParityAutomaton) (c : proposed.Certificate) (forms : List NormalForm) (parity v l : ℕ) (lists : List (Vec choice.Choice Global))
-    (node : kept.Node) (xs : List choice.Choice) → node ≡ node_at c.nodes.items v → node.set < length lists → xs ≡ row_at lists node.set
-    → AreChoices (λ p. truth_at a.truths.items p l) forms c.sets.items lists
+pub going : (a : ParityAutomaton) (c : proposed.Certificate) (forms : List NormalForm) (parity v l : ℕ) (lists : List Pooled) (numbers : List ℕ)
+    (node : kept.Node) (xs : List choice.Choice) → node ≡ node_at c.nodes.items v → node.set < length numbers
+    → xs ≡ list_at lists (get_or numbers node.set 0) → AreNumbers (λ p. truth_at a.truths.items p l) forms c.sets.items lists numbers
     → GoesEach (automaton_of a) (certificate_of forms c) parity v l forms xs → GoesAt (automaton_of a) (certificate_of forms c) parity v l
-going a c forms parity v l lists node xs is lt ex are goes =
+going a c forms parity v l lists numbers node xs is lt ex are goes =
     let letter = λ (p : ℕ). truth_at a.truths.items p l in
     let here = subst (λ (ys : List choice.Choice). AreCovered (choices_in forms ys) (choices_of letter (parts forms (row_at c.sets.items node.set))))
-    (sym ex) (are node.set lt) in
+    (sym ex) (are node.set lt).covers in
     pruning (automaton_of a) (certificate_of forms c) parity v l
     (choices_of letter (parts forms (row_at c.sets.items (node_at c.nodes.items v).set))) (choices_in forms xs)
     (subst (λ (n : kept.Node). AreCovered (choices_in forms xs) (choices_of letter (parts forms (row_at c.sets.items n.set)))) is here) goes

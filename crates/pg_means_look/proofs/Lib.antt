@@ -7,3 +7,4 @@ pub mod Going
 pub mod Lassos
 pub mod Sound
 pub mod Forms
+pub mod Pooling

@@ -1,20 +1,17 @@
 -- Steps of the loops over choices.
-use Rattle.std.proofs.Common.{◌≡◌, ℕ, ◌+◌, ◌<◌, ◌⊎◌, inl, inr, Bool, true, false, List, [], ◌∷◌, ◌++◌, map, length, get_or, take, drop, if◌then◌else◌, arith, refl, sym, ap, subst, ◌∙◌, true≢false}
+use Rattle.std.proofs.Common.{◌≡◌, ℕ, ◌+◌, ◌<◌, ◌⊎◌, inl, inr, Bool, true, false, List, [], ◌∷◌, ◌++◌, map, length, get_or, take, arith, refl, sym, ap, subst, ◌∙◌}
 use Rattle.std.specs.Prelude.{All, Contains}
-use mathlib.Core.Bool.{beq}
 use Rattle.std.specs.Bool.{OnTrue}
 use Rattle.std.specs.declared.vec.Vec.{Vec}
 use Rattle.std.specs.declared.alloc.Global.{Global}
 use Rattle.std.proofs.lemmas.Bool.{cases_lt}
-use Rattle.std.proofs.lemmas.List.{map_push, map_more, drop_more, map-append, get_or_append_left, get_or_push, get_or-map, length-map, length_push}
-use Rattle.pg_ltl.specs.declared.normal.NormalNode.{NormalNode}
-use Rattle.pg_ltl.specs.Mirrors.Nodes.{normal_at}
-use Rattle.pg_ltl.specs.NormalForms.{NormalForm, both, either, until, release}
-use Rattle.pg_ltl.specs.Tableaux.{Choice, Each, IsAmong, IsLeftOut, free, asked, put_off, joined, with_each, product, same, choices, choices_of}
+use Rattle.std.proofs.lemmas.List.{map_push, map_more, map-append, get_or_append_left, get_or_push, get_or-map, length-map, length_push}
+use Rattle.pg_ltl.specs.NormalForms.{NormalForm}
+use Rattle.pg_ltl.specs.Tableaux.{Choice, Each, IsAmong, IsLeftOut, joined, with_each, product}
 use Rattle.pg_means_look.specs.declared.choice.Choice as own
-use Rattle.pg_means_look.specs.Mirrors.Choices.{part, parts, choice_of, choices_in, IsNoMore, AreCovered, Keeps, IsTable}
+use Rattle.pg_means_look.specs.Mirrors.Choices.{parts, choice_of, choices_in, IsNoMore, AreCovered, Keeps}
 use Rattle.pg_means_look.specs.Mirrors.Tables.{row_at}
-use Rattle.pg_means_look.proofs.Covering.{within_parts, union_parts, left_out_at, left_out_more, keeps_push, left_out_last, covered_keep, covered_self, each_with_push, each_product_push, covered_product, covered_append}
+use Rattle.pg_means_look.proofs.Covering.{within_parts, union_parts, left_out_at, left_out_more, keeps_push, left_out_last, covered_keep, each_with_push, each_product_push}
 
 pub no_more_by : (forms : List NormalForm) (c d : own.Choice) → All (Contains d.asks.items) c.asks.items → All (Contains d.puts.items) c.puts.items
     → IsNoMore (choice_of forms c) (choice_of forms d)
@@ -152,126 +149,3 @@ module _ {A : Type 0} (rows : List (Vec A Global)) where
         let same : length rows ≡ k = omega arith in
         subst (λ n. P n (row_at new n)) same (subst (P (length rows)) (sym (row_last row new e)) last)
   ]
-
--- ---- the choices of a node, by those of its operands
-
-module _ (letter : ℕ → Bool) (forms : List NormalForm) (table : List (Vec own.Choice Global)) (is : IsTable letter forms table) where
-  pub row_covered : (a : ℕ) (xs : List own.Choice) → a < length table → xs ≡ row_at table a
-      → AreCovered (choices_in forms xs) (choices letter (part forms a))
-  row_covered a xs lt e =
-      subst (λ (zs : List own.Choice). AreCovered (choices_in forms zs) (choices letter (part forms a))) (sym e) (is a lt)
-
-  module _ (kept : List Choice) (f : NormalForm) (a b : ℕ) (xs ys : List own.Choice) (la : a < length table) (lb : b < length table)
-      (ex : xs ≡ row_at table a) (ey : ys ≡ row_at table b) where
-    pub node_both : f ≡ both (part forms a) (part forms b) → AreCovered kept (product (choices_in forms xs) (choices_in forms ys))
-        → AreCovered kept (choices letter f)
-    node_both e h =
-        subst (λ (g : NormalForm). AreCovered kept (choices letter g)) (sym e)
-        (covered_product kept (choices_in forms xs) (choices_in forms ys) (choices letter (part forms a)) (choices letter (part forms b))
-        (row_covered a xs la ex) (row_covered b ys lb ey) h)
-
-    pub node_either : f ≡ either (part forms a) (part forms b) → AreCovered kept (choices_in forms xs ++ choices_in forms ys)
-        → AreCovered kept (choices letter f)
-    node_either e h =
-        subst (λ (g : NormalForm). AreCovered kept (choices letter g)) (sym e)
-        (covered_append kept (choices_in forms xs) (choices_in forms ys) (choices letter (part forms a)) (choices letter (part forms b))
-        (row_covered a xs la ex) (row_covered b ys lb ey) h)
-
-    pub node_until : f ≡ until (part forms a) (part forms b)
-        → AreCovered kept (choices_in forms ys ++ product (choices_in forms xs) (put_off f ∷ [])) → AreCovered kept (choices letter f)
-    node_until e h =
-        let off = put_off f ∷ [] in
-        let before = product (choices_in forms xs) off in
-        let after = product (choices letter (part forms a)) off in
-        let made = covered_append kept (choices_in forms ys) before (choices letter (part forms b)) after (row_covered b ys lb ey)
-        (covered_product before (choices_in forms xs) off (choices letter (part forms a)) off (row_covered a xs la ex) (covered_self off)
-        (covered_self before)) h in
-        subst (λ (g : NormalForm). AreCovered kept (choices letter g)) (sym e)
-        (subst (λ (g : NormalForm). AreCovered kept (choices letter (part forms b) ++ product (choices letter (part forms a)) (put_off g ∷ [])))
-        e made)
-
-    pub node_release : f ≡ release (part forms a) (part forms b)
-        → AreCovered kept (product (choices_in forms ys) (choices_in forms xs ++ asked f ∷ [])) → AreCovered kept (choices letter f)
-    node_release e h =
-        let again = asked f ∷ [] in
-        let before = choices_in forms xs ++ again in
-        let after = choices letter (part forms a) ++ again in
-        let made = covered_product kept (choices_in forms ys) before (choices letter (part forms b)) after (row_covered b ys lb ey)
-        (covered_append before (choices_in forms xs) again (choices letter (part forms a)) again (row_covered a xs la ex) (covered_self again)
-        (covered_self before)) h in
-        subst (λ (g : NormalForm). AreCovered kept (choices letter g)) (sym e)
-        (subst (λ (g : NormalForm). AreCovered kept (product (choices letter (part forms b)) (choices letter (part forms a) ++ asked g ∷ [])))
-        e made)
-
-  -- one more formula
-  pub table_push : (seen new : List (Vec own.Choice Global)) (list : Vec own.Choice Global) (node : NormalNode) → seen ≡ table
-      → new ≡ table ++ list ∷ []
-      → (IsTable letter forms seen → part forms (length seen) ≡ normal_at forms node
-      → AreCovered (choices_in forms list.items) (choices letter (part forms (length seen))))
-      → part forms (length table) ≡ normal_at forms node → IsTable letter forms new
-  table_push seen new list node s e made at =
-      rows_push table (λ k xs. AreCovered (choices_in forms xs) (choices letter (part forms k))) list new e is
-      (subst (λ (tb : List (Vec own.Choice Global)). IsTable letter forms tb → part forms (length tb) ≡ normal_at forms node
-      → AreCovered (choices_in forms list.items) (choices letter (part forms (length tb)))) s made is at)
-
-  -- one more formula of a set
-  pub set_more : (kept : List Choice) (set : List ℕ) (i j : ℕ) (xs ls old : List own.Choice) → j + 1 ≡ i → j < length set
-      → get_or set j 0 < length table → xs ≡ row_at table (get_or set j 0) → ls ≡ old
-      → AreCovered (choices_in forms old) (choices_of letter (parts forms (drop i set)))
-      → AreCovered kept (product (choices_in forms xs) (choices_in forms ls)) → AreCovered kept (choices_of letter (parts forms (drop j set)))
-  set_more kept set i j xs ls old e lt below ex el before h =
-      let rest : drop j set ≡ get_or set j 0 ∷ drop i set = drop_more set j 0 lt ∙ ap (λ n. get_or set j 0 ∷ drop n set) e in
-      subst (λ (ps : List ℕ). AreCovered kept (choices_of letter (parts forms ps))) (sym rest)
-      (covered_product kept (choices_in forms xs) (choices_in forms ls) (choices letter (part forms (get_or set j 0)))
-      (choices_of letter (parts forms (drop i set))) (row_covered (get_or set j 0) xs below ex)
-      (subst (λ (zs : List own.Choice). AreCovered (choices_in forms zs) (choices_of letter (parts forms (drop i set)))) (sym el) before) h)
-
--- ---- Until and Release
-
-pub until_made : (forms : List NormalForm) (kept : List Choice) (left right offs off laters later : List own.Choice) (c : own.Choice) (f : NormalForm)
-    → offs ≡ off → off ≡ c ∷ [] → laters ≡ later → choice_of forms c ≡ put_off f
-    → AreCovered (choices_in forms later) (product (choices_in forms left) (choices_in forms offs))
-    → AreCovered kept (choices_in forms right ++ choices_in forms laters)
-    → AreCovered kept (choices_in forms right ++ product (choices_in forms left) (put_off f ∷ []))
-until_made forms kept left right offs off laters later c f eo ec el e made h =
-    let is : choices_in forms offs ≡ put_off f ∷ [] = ap (choices_in forms) (eo ∙ ec) ∙ ap (λ (x : Choice). x ∷ []) e in
-    let made' = subst (λ (ds : List Choice). AreCovered (choices_in forms later) (product (choices_in forms left) ds)) is made in
-    covered_append kept (choices_in forms right) (choices_in forms later) (choices_in forms right)
-    (product (choices_in forms left) (put_off f ∷ [])) (covered_self (choices_in forms right)) made'
-    (subst (λ (zs : List own.Choice). AreCovered kept (choices_in forms right ++ choices_in forms zs)) el h)
-
-pub release_made : (forms : List NormalForm) (kept : List Choice) (left right agains again ways' ways : List own.Choice) (c : own.Choice)
-    (f : NormalForm) → agains ≡ again → again ≡ c ∷ [] → ways' ≡ ways → choice_of forms c ≡ asked f
-    → AreCovered (choices_in forms ways) (choices_in forms left ++ choices_in forms agains)
-    → AreCovered kept (product (choices_in forms right) (choices_in forms ways'))
-    → AreCovered kept (product (choices_in forms right) (choices_in forms left ++ asked f ∷ []))
-release_made forms kept left right agains again ways' ways c f ea ec ew e made h =
-    let is : choices_in forms agains ≡ asked f ∷ [] = ap (choices_in forms) (ea ∙ ec) ∙ ap (λ (x : Choice). x ∷ []) e in
-    let made' = subst (λ (ds : List Choice). AreCovered (choices_in forms ways) (choices_in forms left ++ ds)) is made in
-    covered_product kept (choices_in forms right) (choices_in forms ways) (choices_in forms right) (choices_in forms left ++ asked f ∷ [])
-    (covered_self (choices_in forms right)) made'
-    (subst (λ (zs : List own.Choice). AreCovered kept (product (choices_in forms right) (choices_in forms zs))) ew h)
-
-pub literal_same : (kept : List Choice) (a b : Bool) → a ≡ b → AreCovered kept (free ∷ []) → AreCovered kept (if same a b then free ∷ [] else [])
-literal_same kept true true e h = h
-literal_same kept false false e h = h
-literal_same kept true false e h = tt
-literal_same kept false true e h = tt
-
-pub literal_other : (kept : List Choice) (a b : Bool) → ¬ (a ≡ b) → AreCovered kept (if same a b then free ∷ [] else [])
-literal_other kept true true n = absurd (n refl)
-literal_other kept false false n = absurd (n refl)
-literal_other kept true false n = tt
-literal_other kept false true n = tt
-
-pub beq_same : (a b : Bool) → beq a b ≡ true → a ≡ b
-beq_same true true e = refl
-beq_same false false e = refl
-beq_same true false e = absurd (true≢false (sym e))
-beq_same false true e = absurd (true≢false (sym e))
-
-pub beq_other : (a b : Bool) → beq a b ≡ false → ¬ (a ≡ b)
-beq_other true true e h = true≢false e
-beq_other false false e h = true≢false e
-beq_other true false e h = true≢false h
-beq_other false true e h = true≢false (sym h)

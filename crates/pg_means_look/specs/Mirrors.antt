@@ -3,3 +3,4 @@ pub mod Tables
 pub mod Choices
 pub mod Views
 pub mod Places
+pub mod Pools

@@ -29,6 +29,15 @@ pub(crate) fn free(alloc: Global) -> Choice
     }
 }
 
+/// A list of one choice.
+pub(crate) fn alone(alloc: Global, choice: Choice) -> Result<Vec<Choice>, AllocError>
+    ensures { IfOk result (λ list. list.items ≡ choice ∷ []) }
+{
+    let mut list = Vec::new(alloc);
+    list.push(choice)?;
+    Ok(list)
+}
+
 fn one_place(alloc: Global, place: usize) -> Result<Vec<usize>, AllocError>
     ensures { IfOk result (λ list. list.items ≡ place ∷ []) }
 {

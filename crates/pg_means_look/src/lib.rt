@@ -9,7 +9,7 @@ mod lasso;
 pub mod laws;
 mod look;
 mod places;
-mod tableau;
+mod pool;
 mod values;
 
 pub use automaton::{Edge, ParityAutomaton};
@@ -18,4 +18,4 @@ pub use choice::Choice;
 pub use lasso::is_shown;
 pub use look::{Finder, shows_empty};
 pub use places::are_below;
-pub use tableau::{choices_at, choices_of_set};
+pub use pool::{Origin, Pool, Pooled};

@@ -1,19 +1,22 @@
 //! The look: whether a certificate shows that a product is empty.
 
-ghost use Rattle.std.specs.Prelude.{ℕ, ◌<◌, Bool, List, IfOk, length};
+ghost use Rattle.std.specs.Prelude.{ℕ, ◌<◌, List, All, IfOk, length};
 ghost use Rattle.std.specs.Bool.{OnTrue};
+ghost use Rattle.std.specs.declared.vec.Vec.{Vec};
+ghost use Rattle.std.specs.declared.alloc.Global.{Global};
 ghost use Rattle.pg_ltl.specs.NormalForms.{NormalForm};
 ghost use Rattle.pg_ltl.specs.Mirrors.Nodes.{normal_in, normals_of, AreNormalNodes};
 ghost use Rattle.pg_means_look.specs.Certificates.{Goes, IsEmptyBy};
 ghost use Rattle.pg_means_look.specs.Mirrors.Tables.{truth_at};
-ghost use Rattle.pg_means_look.specs.Mirrors.Choices.{part, choice_of, AreForms, IsTable};
-ghost use Rattle.pg_means_look.specs.Mirrors.Views.{automaton_of, certificate_of, AreChoices, GoesEach, GoesAt, StartsAt};
+ghost use Rattle.pg_means_look.specs.Mirrors.Choices.{part, choice_of, AreForms};
+ghost use Rattle.pg_means_look.specs.Mirrors.Views.{automaton_of, certificate_of, GoesEach, GoesAt, StartsAt};
+ghost use Rattle.pg_means_look.specs.Mirrors.Pools.{IsPool, AreNumbers};
 
 use crate::automaton::ParityAutomaton;
 use crate::certificate::Certificate;
 use crate::choice::Choice;
 use crate::places::{are_below, is_within};
-use crate::tableau::{choices_at, choices_of_set, row};
+use crate::pool::{Pool, Pooled, list_at};
 use pg_ltl::NormalNode;
 use std::alloc::{AllocError, Global};
 
@@ -73,46 +76,28 @@ fn goes_each<F: Finder>(
     true
 }
 
-/// The choices of each set, up to the first set with a place that no formula has.
-fn choices_of_sets(
-    alloc: Global,
-    sets: &[Vec<usize>],
-    table: &[Vec<Choice>],
-) -> Result<Vec<Vec<Choice>>, AllocError>
-    ensures { IfOk result (λ lists. (forms : List NormalForm) (letter : ℕ → Bool) → IsTable letter forms table.now
-        → AreChoices letter forms sets.now lists.items) }
-{
-    let mut lists = Vec::new(alloc);
-    for set in sets {
-        if !are_below(set, table.len()) {
-            return Ok(lists);
-        }
-        let list = choices_of_set(alloc, set, table)?;
-        lists.push(list)?;
-    }
-    Ok(lists)
-}
-
-/// Whether each choice at the letter goes from each node to one, by the choices of the sets at this letter.
+/// Whether each choice at the letter goes from each node to one, by lists of choices of the sets at this letter.
 fn goes_from_each<F: Finder>(
     automaton: &ParityAutomaton,
     certificate: &Certificate,
     finder: &F,
     parity: u32,
     letter: u32,
-    lists: &[Vec<Choice>],
+    lists: &[Pooled],
+    numbers: &[usize],
 ) -> bool
     requires { parity < 2 }
-    ensures { OnTrue result ((forms : List NormalForm) → AreChoices (λ p. truth_at automaton.now.truths.items p letter) forms
-        certificate.now.sets.items lists.now → (v : ℕ) → v < length certificate.now.nodes.items
+    ensures { OnTrue result ((forms : List NormalForm)
+        → AreNumbers (λ p. truth_at automaton.now.truths.items p letter) forms certificate.now.sets.items lists.now numbers.now
+        → (v : ℕ) → v < length certificate.now.nodes.items
         → GoesAt (automaton_of automaton.now) (certificate_of forms certificate.now) parity v letter) }
 {
     for v in 0..certificate.nodes.len() {
         let set = certificate.node(v).set;
-        if set >= lists.len() {
+        if set >= numbers.len() {
             return false;
         }
-        let list = row(lists, set);
+        let list = list_at(lists, numbers[set]);
         if !goes_each(automaton, certificate, finder, parity, v, letter, list) {
             return false;
         }
@@ -120,25 +105,36 @@ fn goes_from_each<F: Finder>(
     true
 }
 
-/// Whether each choice at the letter goes from each node to one.
-fn goes_at<F: Finder>(
+/// For each set of the certificate the number of its choices at the letter.
+fn numbers_at(
     alloc: Global,
     automaton: &ParityAutomaton,
     nodes: &[NormalNode],
-    certificate: &Certificate,
-    finder: &F,
-    parity: u32,
+    sets: &[Vec<usize>],
+    pool: &mut Pool,
     letter: u32,
-) -> Result<bool, AllocError>
-    requires parity { parity < 2 }
+) -> Result<Vec<usize>, AllocError>
     requires ordered { AreNormalNodes nodes.now }
-    ensures { IfOk result (λ yes. OnTrue yes ((forms : List NormalForm) → AreForms nodes.now forms
-        → (v : ℕ) → v < length certificate.now.nodes.items
-        → GoesAt (automaton_of automaton.now) (certificate_of forms certificate.now) parity v letter)) }
+    requires below { All (λ (set : Vec ℕ Global). All (λ place. place < length nodes.now) set.items) sets.now }
+    ensures { IfOk result (λ numbers. (forms : List NormalForm) → AreForms nodes.now forms → IsPool forms pool.old.lists.items
+        → IsPool forms pool.new.lists.items
+        × AreNumbers (λ p. truth_at automaton.now.truths.items p letter) forms sets.now pool.new.lists.items numbers.items) }
 {
-    let table = choices_at(alloc, nodes, &automaton.truths, letter)?;
-    let lists = choices_of_sets(alloc, &certificate.sets, &table)?;
-    Ok(goes_from_each(automaton, certificate, finder, parity, letter, &lists))
+    pool.clear_if_full(alloc);
+    let rows = pool.rows(alloc, nodes, &automaton.truths, letter)?;
+    pool.numbers(alloc, sets, &rows)
+}
+
+/// Whether the places of all sets are below this.
+fn are_sets_below(sets: &[Vec<usize>], bound: usize) -> bool
+    ensures { OnTrue result (All (λ (set : Vec ℕ Global). All (λ place. place < bound) set.items) sets.now) }
+{
+    for set in sets {
+        if !are_below(set, bound) {
+            return false;
+        }
+    }
+    true
 }
 
 /// Whether the first node stands for the start, and for the formula at a place.
@@ -170,11 +166,23 @@ pub fn shows_empty<F: Finder>(
     ensures { IfOk result (λ yes. OnTrue yes (IsEmptyBy (automaton_of automaton.now) (normal_in nodes.now root) parity
         (certificate_of (normals_of nodes.now) certificate.now))) }
 {
-    if !starts(automaton, certificate, root) {
+    let sets = &certificate.sets;
+    if !starts(automaton, certificate, root) || !are_sets_below(sets, nodes.len()) {
         return Ok(false);
     }
+    let mut pool = Pool::new(alloc);
     for letter in 0..automaton.letters {
-        if !goes_at(alloc, automaton, nodes, certificate, finder, parity, letter)? {
+        let numbers = numbers_at(alloc, automaton, nodes, sets, &mut pool, letter)?;
+        let lists = &pool.lists;
+        if !goes_from_each(
+            automaton,
+            certificate,
+            finder,
+            parity,
+            letter,
+            lists,
+            &numbers,
+        ) {
             return Ok(false);
         }
     }

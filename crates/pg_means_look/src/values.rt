@@ -3,15 +3,22 @@
 ghost use Rattle.std.specs.Prelude.{◌≡◌, ◌<◌, ◌≤◌, ℕ, Bool, true, List, IfOk, length, replicate, slice_index_or, ◌⊎◌};
 ghost use Rattle.std.specs.Bool.{OnTrue};
 ghost use Rattle.pg_ltl.specs.NormalForms.{NormalForm, until, Holds};
-ghost use Rattle.pg_ltl.specs.Mirrors.Nodes.{normal_at, normal_reach, normal_in, AreNormalNodes};
+ghost use Rattle.pg_ltl.specs.Mirrors.Nodes.{normal_at, normal_reach, normal_in, normal_node_in, AreNormalNodes};
 ghost use Rattle.pg_means_look.specs.Mirrors.Tables.{row_at, truth_at};
 ghost use Rattle.pg_means_look.specs.Mirrors.Choices.{part, AreForms};
 ghost use Rattle.pg_means_look.specs.Mirrors.Places.{behind, value_at, word_of, IsSound, AreSound, IsClosed};
 
 use crate::automaton::holds;
-use crate::tableau::node_at;
 use pg_ltl::NormalNode;
 use std::alloc::{AllocError, Global};
+
+/// The node at a place.
+pub(crate) fn node_at(nodes: &[NormalNode], place: usize) -> NormalNode
+    requires { place < length nodes.now }
+    ensures { result ≡ normal_node_in nodes.now place }
+{
+    nodes[place]
+}
 
 /// The place behind a place of a lasso.
 pub(crate) fn behind(count: usize, back: usize, place: usize) -> usize

@@ -6,7 +6,9 @@ mod graph;
 mod lists;
 mod product;
 mod proposal;
+mod size;
 mod tables;
 mod way;
 
 pub use proposal::{Lasso, Proposal, Proposed, SearchFault, propose};
+pub use size::{ProductSize, size_of};

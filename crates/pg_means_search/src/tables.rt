@@ -6,7 +6,7 @@ use crate::lists::Lists;
 use crate::product::{MOST_EDGES, Product};
 use crate::proposal::SearchFault;
 use pg_ltl::NormalNode;
-use pg_means_look::{Choice, ParityAutomaton, are_below, choices_at, choices_of_set};
+use pg_means_look::{ParityAutomaton, Pool, are_below};
 use std::alloc::{AllocError, Global};
 
 /// So many formulas times letters are looked at, and no more.
@@ -17,53 +17,34 @@ pub struct Tables {
     /// How many formulas there are.
     formulas: usize,
     letters: usize,
-    /// Lists of choices: of each the number of formulas, these, the number of Untils, and these.
-    lists: Lists,
-    /// Letter by letter the number of the list of each formula.
-    rows: Vec<u32>,
+    pool: Pool,
+    /// Letter by letter the number of the choices of each formula.
+    rows: Vec<usize>,
     /// For each set and letter the number of its moves, counted from 1, or 0 where they weren't looked for.
     known: Vec<u32>,
+    /// For each list of choices the same.
+    led: Vec<u32>,
     /// Lists of moves: of each the set to which it leads, and that of the Untils that are put off.
     moves: Lists,
 }
 
-/// Choices as numbers.
-fn written(alloc: Global, list: &[Choice]) -> Result<Vec<usize>, AllocError> {
-    let mut numbers = Vec::new(alloc);
-    for choice in list {
-        numbers.push(choice.asks.len())?;
-        numbers.extend_from_slice(&choice.asks)?;
-        numbers.push(choice.puts.len())?;
-        numbers.extend_from_slice(&choice.puts)?;
-    }
-    Ok(numbers)
-}
-
-/// The list that begins with its length, and what is behind it.
-fn front(numbers: &[usize]) -> (&[usize], &[usize]) {
-    match numbers.split_first() {
-        Some((count, rest)) => rest.split_at((*count).min(rest.len())),
-        None => (&[], &[]),
+/// The number at a place, where it is counted from 1.
+fn known_at(numbers: &[u32], place: usize) -> Option<usize> {
+    match numbers.get(place) {
+        Some(number) if *number > 0 => Some(*number as usize - 1),
+        _ => None,
     }
 }
 
-/// Choices from numbers.
-fn read_back(alloc: Global, numbers: &[usize]) -> Result<Vec<Choice>, AllocError> {
-    let mut list = Vec::new(alloc);
-    let mut rest = numbers;
-    for _ in 0..numbers.len() {
-        if rest.is_empty() {
-            break;
-        }
-        let (asks, behind) = front(rest);
-        let (puts, behind) = front(behind);
-        list.push(Choice {
-            asks: Vec::from_slice(alloc, asks)?,
-            puts: Vec::from_slice(alloc, puts)?,
-        })?;
-        rest = behind;
+/// Puts a number at a place, counted from 1.
+fn learn(numbers: &mut Vec<u32>, place: usize, number: usize) -> Result<(), AllocError> {
+    for _ in numbers.len()..place.saturating_add(1) {
+        numbers.push(0)?;
     }
-    Ok(list)
+    if place < numbers.len() && number < u32::MAX as usize {
+        numbers[place] = number as u32 + 1;
+    }
+    Ok(())
 }
 
 impl Tables {
@@ -78,20 +59,18 @@ impl Tables {
         if nodes.len().saturating_mul(letters) > MOST_TABLES {
             return Err(SearchFault::TooLarge);
         }
-        let mut lists = Lists::new(alloc);
+        let mut pool = Pool::new(alloc);
         let mut rows = Vec::new(alloc);
         for letter in 0..automaton.letters {
-            for list in &choices_at(alloc, nodes, &automaton.truths, letter)? {
-                let number = lists.number(&written(alloc, list)?)?;
-                rows.push(number.min(u32::MAX as usize) as u32)?;
-            }
+            rows.extend_from_slice(&pool.rows(alloc, nodes, &automaton.truths, letter)?)?;
         }
         Ok(Tables {
             formulas: nodes.len(),
             letters,
-            lists,
+            pool,
             rows,
             known: Vec::new(alloc),
+            led: Vec::new(alloc),
             moves: Lists::new(alloc),
         })
     }
@@ -110,52 +89,51 @@ impl Tables {
         letter: usize,
     ) -> Result<usize, SearchFault> {
         let place = set.saturating_mul(self.letters).saturating_add(letter);
-        let number = self.known.get(place).copied().unwrap_or(0) as usize;
-        if number > 0 {
-            return Ok(number - 1);
+        if let Some(number) = known_at(&self.known, place) {
+            return Ok(number);
         }
         if place > MOST_EDGES {
             return Err(SearchFault::TooLarge);
         }
-        for _ in self.known.len()..place.saturating_add(1) {
-            self.known.push(0)?;
-        }
-        let moves = self.make(alloc, product, set, letter)?;
-        let number = self.moves.number(&moves)?;
-        if place < self.known.len() && number < u32::MAX as usize {
-            self.known[place] = number as u32 + 1;
-        }
+        let list = self.choices(alloc, product.sets.list(set), letter)?;
+        let number = self.moves_of(alloc, product, list)?;
+        learn(&mut self.known, place, number)?;
         Ok(number)
     }
 
-    /// The choices of a formula at a letter.
-    fn row(&self, alloc: Global, letter: usize, formula: usize) -> Result<Vec<Choice>, AllocError> {
-        let place = letter.saturating_mul(self.formulas).saturating_add(formula);
-        let number = self.rows.get(place).copied().unwrap_or(u32::MAX);
-        read_back(alloc, self.lists.list(number as usize))
+    /// The number of the choices of a set at a letter.
+    fn choices(
+        &mut self,
+        alloc: Global,
+        set: &[usize],
+        letter: usize,
+    ) -> Result<usize, SearchFault> {
+        let begin = letter.saturating_mul(self.formulas).min(self.rows.len());
+        let end = begin.saturating_add(self.formulas).min(self.rows.len());
+        let rows = &self.rows[begin..end];
+        if !are_below(set, rows.len()) {
+            return Err(SearchFault::TooLarge);
+        }
+        Ok(self.pool.set(alloc, set, rows)?)
     }
 
-    fn make(
-        &self,
+    /// The number of the moves to which the choices of a list lead.
+    fn moves_of(
+        &mut self,
         alloc: Global,
         product: &mut Product,
-        set: usize,
-        letter: usize,
-    ) -> Result<Vec<usize>, SearchFault> {
-        let mut table = Vec::new(alloc);
-        let mut places = Vec::new(alloc);
-        for formula in product.sets.list(set) {
-            places.push(table.len())?;
-            table.push(self.row(alloc, letter, *formula)?)?;
+        list: usize,
+    ) -> Result<usize, SearchFault> {
+        if let Some(number) = known_at(&self.led, list) {
+            return Ok(number);
         }
         let mut moves = Vec::new(alloc);
-        if !are_below(&places, table.len()) {
-            return Ok(moves);
-        }
-        for choice in &choices_of_set(alloc, &places, &table)? {
+        for choice in self.pool.list(list) {
             moves.push(product.sets.number(&choice.asks)?)?;
             moves.push(product.puts.number(&choice.puts)?)?;
         }
-        Ok(moves)
+        let number = self.moves.number(&moves)?;
+        learn(&mut self.led, list, number)?;
+        Ok(number)
     }
 }

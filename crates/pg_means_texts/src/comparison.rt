@@ -12,7 +12,7 @@ use pg_means::{Verdict, means};
 use std::alloc::Global;
 
 /// The most propositions that an automaton and a formula have together.
-const MOST_PROPOSITIONS: usize = 16;
+pub(crate) const MOST_PROPOSITIONS: usize = 16;
 
 /// What is found of an automaton and a formula, and the names of all their propositions.
 #[derive(Debug, Drop)]

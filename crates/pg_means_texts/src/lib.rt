@@ -4,9 +4,11 @@
 mod comparison;
 mod fault;
 mod names;
+mod sizes;
 mod writing;
 
 pub use comparison::{Compared, compare};
 pub use fault::CompareFault;
-pub use pg_means::{MeansFault, Verdict};
+pub use pg_means::{MeansFault, ProductSizes, Verdict};
+pub use sizes::product_sizes;
 pub use writing::write_compared;

@@ -1,14 +1,11 @@
 -- Choices of a tableau by the places of the formulas that they ask for.
-use Rattle.std.specs.Prelude.{◌≡◌, ℕ, ◌<◌, Bool, List, map, length, slice_index_or}
-use Rattle.std.specs.declared.vec.Vec.{Vec}
-use Rattle.std.specs.declared.alloc.Global.{Global}
+use Rattle.std.specs.Prelude.{◌≡◌, ℕ, ◌<◌, List, map, length, slice_index_or}
 use Rattle.pg_ltl.specs.declared.normal.NormalNode.{NormalNode}
 use Rattle.pg_ltl.specs.declared.normal.NormalNode.TheVariants as nodes
 use Rattle.pg_ltl.specs.NormalForms.{NormalForm, top}
-use Rattle.pg_ltl.specs.Tableaux.{Choice, Each, IsAmong, IsLeftOut, choices}
+use Rattle.pg_ltl.specs.Tableaux.{Choice, Each, IsAmong, IsLeftOut}
 use Rattle.pg_ltl.specs.Mirrors.Nodes.{normal_at}
 use Rattle.pg_means_look.specs.declared.choice.Choice as kept
-use Rattle.pg_means_look.specs.Mirrors.Tables.{row_at}
 
 -- the formula at a place of a list of formulas
 abbrev pub part : List NormalForm → ℕ → NormalForm
@@ -38,8 +35,3 @@ AreCovered kept all = Each (λ c. IsLeftOut c kept) all
 -- what was covered before is covered now
 abbrev pub Keeps : List Choice → List Choice → Type 0
 Keeps old new = (c : Choice) → IsLeftOut c old → IsLeftOut c new
-
--- the choices of each formula at the letter
-abbrev pub IsTable : (ℕ → Bool) → List NormalForm → List (Vec kept.Choice Global) → Type 0
-IsTable letter forms table =
-    (place : ℕ) → place < length table → AreCovered (choices_in forms (row_at table place)) (choices letter (part forms place))

@@ -1,7 +1,5 @@
 -- Automata and certificates, as the code keeps them.
-use Rattle.std.specs.Prelude.{◌≡◌, ◌≢◌, ℕ, ◌+◌, ◌*◌, ◌/◌, ◌^◌, ◌≤◌, ◌<◌, ◌⊎◌, Bool, List, ◌∷◌, length, Option, Some, None, [], option_map, map, slice_index_or, Contains}
-use Rattle.std.specs.declared.vec.Vec.{Vec}
-use Rattle.std.specs.declared.alloc.Global.{Global}
+use Rattle.std.specs.Prelude.{◌≡◌, ◌≢◌, ℕ, ◌+◌, ◌*◌, ◌/◌, ◌^◌, ◌≤◌, ◌<◌, ◌⊎◌, List, ◌∷◌, length, Option, Some, None, [], option_map, map, slice_index_or, Contains}
 use Rattle.pg_ltl.specs.NormalForms.{NormalForm}
 use Rattle.pg_ltl.specs.Tableaux.{Each, IsAmong, choices_of}
 use Rattle.pg_means_look.specs.declared.automaton.ParityAutomaton.{ParityAutomaton}
@@ -12,7 +10,7 @@ use Rattle.pg_means_look.specs.declared.choice.Choice as choice
 use Rattle.pg_means_look.specs.Automata.{Automaton}
 use Rattle.pg_means_look.specs.Certificates.{Certificate, Goes}
 use Rattle.pg_means_look.specs.Mirrors.Tables.{edge_at, row_at, truth_at}
-use Rattle.pg_means_look.specs.Mirrors.Choices.{part, parts, choices_in, AreCovered}
+use Rattle.pg_means_look.specs.Mirrors.Choices.{part, parts, choices_in}
 
 abbrev pub automaton_of : ParityAutomaton → Automaton
 automaton_of a = record {
@@ -65,11 +63,6 @@ GoesEach a cert parity v l forms list = Each (Goes a cert parity v l) (choices_i
 
 abbrev pub GoesAt : Automaton → Certificate → ℕ → ℕ → ℕ → Type 0
 GoesAt a cert parity v l = Each (Goes a cert parity v l) (choices_of (a.on l) (cert.node v).asks)
-
--- the choices of each set at the letter
-abbrev pub AreChoices : (ℕ → Bool) → List NormalForm → List (Vec ℕ Global) → List (Vec choice.Choice Global) → Type 0
-AreChoices letter forms sets lists =
-    (s : ℕ) → s < length lists → AreCovered (choices_in forms (row_at lists s)) (choices_of letter (parts forms (row_at sets s)))
 
 -- the first node stands for the start and the formula
 pub record StartsAt (a : Automaton) (cert : Certificate) (f : NormalForm) : Type 0 where

@@ -1,5 +1,4 @@
-use Rattle.std.proofs.Common.{◌+◌, ◌*◌, ◌<◌, ◌≤◌, ◌^◌, subst, arith}
-use Rattle.std.proofs.Math.Nat.{add-mul}
+use Rattle.std.proofs.Common.{subst}
 use Rattle.pg_ltl.specs.Mirrors.Views.{written, form}
 use Rattle.pg_means_look.specs.Certificates.{Certificate, IsEmptyBy}
 use Rattle.pg_means_look.specs.Mirrors.Views.{automaton_of}
@@ -36,11 +35,3 @@ returns c condition fits =
     c.in_ok-complete.ensures.completed c.in_ok-complete.ensures.truths none.0 none-2.0
     (subst (λ f. IsEmptyBy complete f 0 none.0) c.in_ok-no.ensures none.1)
     (subst (λ f. IsEmptyBy complete f 1 none-2.0) c.in_ok-yes.ensures none-2.1)
-
-pub completed-requires-clause-small : goal.completed-requires-clause-small
-completed-requires-clause-small c =
-    let rows = add-mul c.args.automaton.now.states 1 c.width_of-letters.result in
-    let within : c.args.automaton.now.states * c.width_of-letters.result ≤ 16777216 =
-    subst (λ s. s * c.width_of-letters.result ≤ 16777216) c.states-states.ensures.value c.if-states-letters-gt-MOST_STEPS.false in
-    subst (λ w. (c.args.automaton.now.states + 1) * w < 2 ^ 32) c.width_of-letters.ensures.value
-    (omega (arith, rows, within, c.width_of-letters.ensures.few))

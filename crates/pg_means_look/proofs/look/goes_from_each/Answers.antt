@@ -10,6 +10,7 @@ loop-v-preserved g c forms are v lt = elim (cases_lt v c.loop-v.v) [
   | inr ge ↦
       let at : c.loop-v.v ≡ v = omega arith in
       subst (λ (n : ℕ). GoesAt (automaton_of c.args.automaton.now) (certificate_of forms c.args.certificate.now) c.args.parity n c.args.letter) at
-      (going c.args.automaton.now c.args.certificate.now forms c.args.parity c.loop-v.v c.args.letter c.args.lists.now c.node-set.result
-      c.row-list.result.now c.node-set.ensures (omega arith) c.row-list.ensures are (c.if-not-goes_each.ensures forms))
+      (going c.args.automaton.now c.args.certificate.now forms c.args.parity c.loop-v.v c.args.letter c.args.lists.now c.args.numbers.now
+      c.node-set.result c.list_at-list.result.now c.node-set.ensures c.if-set-numbers.false c.list_at-list.ensures are
+      (c.if-not-goes_each.ensures forms))
 ]

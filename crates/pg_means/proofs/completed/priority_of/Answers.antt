@@ -1,7 +1,0 @@
-use Rattle.std.proofs.Common.{sym}
-use Rattle.pg_means.proofs.Tabled.{deciding_below}
-use Rattle.pg_means.proofs.completed.priority_of.Goals as goal
-
-pub set_priority-requires-clause-below : goal.set_priority-requires-clause-below
-set_priority-requires-clause-below c =
-    deciding_below c.args.shape c.args.met.now c.in-Some.set c.args.sets c.requires.below (sym c.in-Some.ensures)

@@ -1,0 +1,50 @@
+//! How large the products are that a verdict rests on.
+
+ghost use Rattle.std.specs.Prelude.{◌<◌, ◌≤◌, All};
+
+use crate::completed::completed;
+use crate::fault::MeansFault;
+use pg_hoa_automaton::Automaton;
+use pg_ltl::{Formula, NormalForm, normal_form};
+use pg_means_look::ParityAutomaton;
+use pg_means_search::{ProductSize, size_of};
+use std::alloc::Global;
+
+/// How large both products are.
+#[derive(Clone, Copy, Debug)]
+pub struct ProductSizes {
+    /// That of the automaton and the tableau of the formula's negation.
+    pub negation: ProductSize,
+    /// That of the automaton's complement and the tableau of the formula.
+    pub formula: ProductSize,
+}
+
+/// How large the product with the tableau of a formula is, in which a greatest priority of this parity is looked for.
+fn size_with(
+    alloc: Global,
+    automaton: &ParityAutomaton,
+    formula: &NormalForm,
+    parity: u32,
+) -> Result<ProductSize, MeansFault> {
+    Ok(size_of(alloc, automaton, &formula.nodes, formula.root, parity)?)
+}
+
+/// How large the products are of an automaton and a formula, which are as for `means`. Nothing is promised of them: they tell how much
+/// work the verdict `Same` takes.
+pub fn sizes(
+    alloc: Global,
+    automaton: &Automaton,
+    formula: &Formula,
+    propositions: u32,
+    places: &[u32],
+) -> Result<ProductSizes, MeansFault>
+    requires few { propositions ≤ 16 }
+    requires places { All (λ place. place < propositions) places.now }
+{
+    let complete = completed(alloc, automaton, propositions, places)?;
+    let no = normal_form(alloc, formula, false)?;
+    let negation = size_with(alloc, &complete, &no, 0)?;
+    let yes = normal_form(alloc, formula, true)?;
+    let formula = size_with(alloc, &complete, &yes, 1)?;
+    Ok(ProductSizes { negation, formula })
+}

@@ -1,0 +1,409 @@
+//! Lists of choices in a pool, each made once. At most letters the list of a formula, or of a set of formulas, is there already.
+
+ghost use Rattle.std.specs.Prelude.{◌≡◌, ◌<◌, ◌≤◌, ◌++◌, ◌∷◌, [], ℕ, Bool, List, All, IfOk, length, if◌then◌else◌};
+ghost use Rattle.std.specs.Bool.{OnTrue};
+ghost use Rattle.std.specs.declared.vec.Vec.{Vec};
+ghost use Rattle.std.specs.declared.alloc.Global.{Global};
+ghost use Rattle.pg_ltl.specs.NormalForms.{NormalForm};
+ghost use Rattle.pg_ltl.specs.Tableaux as tableaux;
+ghost use Rattle.pg_ltl.specs.Tableaux.{product, choices, choices_of};
+ghost use Rattle.pg_ltl.specs.Mirrors.Nodes.{normal_at, normal_reach, AreNormalNodes};
+ghost use Rattle.pg_means_look.specs.Mirrors.Tables.{truth_at};
+ghost use Rattle.pg_means_look.specs.Mirrors.Choices.{part, parts, choices_in, AreForms, AreCovered};
+ghost use Rattle.pg_means_look.specs.Mirrors.Pools.{list_at, made, IsWithin, IsPool, Stands, Has, AreRows, AreNumbers, IsAt};
+
+use crate::automaton::holds;
+use crate::choice::{Choice, all_of, alone, asked, free, product_of, put_off};
+use crate::values::node_at;
+use pg_ltl::NormalNode;
+use std::alloc::{AllocError, Global};
+
+/// So many slots there are at first.
+const FIRST_SLOTS: usize = 1 << 10;
+
+/// Past so many lists all are let go before the next letter.
+const MOST_LISTS: usize = 1 << 14;
+
+/// So many slots are looked at for a list.
+const MOST_LOOKS: usize = 32;
+
+/// Where nothing is.
+const NONE: u32 = u32::MAX;
+
+/// What a list of choices is made of: others by their numbers, and formulas by their places.
+#[derive(Clone, Copy, Debug, PartialEq, Eq)]
+pub enum Origin {
+    /// The choice that asks for nothing.
+    Free,
+    /// No choice.
+    Nothing,
+    /// One that asks for a formula.
+    Asked(usize),
+    /// One that puts off an Until.
+    PutOff(usize),
+    /// What choices of two lists ask for together.
+    Product(usize, usize),
+    /// The choices of two lists.
+    Union(usize, usize),
+}
+
+/// A list of choices, and what it is made of.
+#[derive(Debug, Drop)]
+pub struct Pooled {
+    pub origin: Origin,
+    pub list: Vec<Choice>,
+}
+
+/// Lists of choices by their numbers.
+#[derive(Debug, Drop)]
+pub struct Pool {
+    pub lists: Vec<Pooled>,
+    /// By their origins numbers of lists. What a slot says is looked at.
+    slots: Vec<u32>,
+}
+
+/// The list of this number; past the last one none.
+pub(crate) fn list_at(lists: &[Pooled], number: usize) -> &[Choice]
+    ensures { result.now ≡ list_at lists.now number }
+{
+    match lists.get(number) {
+        Some(found) => found.list.as_slice(),
+        None => &[],
+    }
+}
+
+/// Two numbers in one.
+fn mixed(kind: u64, a: usize, b: usize) -> usize {
+    let mut sum = kind.wrapping_mul(0x9E37_79B9_7F4A_7C15);
+    sum = (sum ^ a as u64).wrapping_mul(0x9E37_79B9_7F4A_7C15);
+    sum ^= sum >> 32;
+    sum = (sum ^ b as u64).wrapping_mul(0x9E37_79B9_7F4A_7C15);
+    sum ^= sum >> 32;
+    sum as usize
+}
+
+/// A number that depends on all of the origin.
+fn sum_of(origin: Origin) -> usize {
+    match origin {
+        Origin::Free => 0,
+        Origin::Nothing => 1,
+        Origin::Asked(place) => mixed(2, place, 0),
+        Origin::PutOff(place) => mixed(3, place, 0),
+        Origin::Product(a, b) => mixed(4, a, b),
+        Origin::Union(a, b) => mixed(5, a, b),
+    }
+}
+
+/// Whether both are the same.
+fn is_same(a: Origin, b: Origin) -> bool
+    ensures { OnTrue result (a ≡ b) }
+{
+    a == b
+}
+
+/// What a literal asks for where its proposition has this value.
+fn literal(held: bool, value: bool) -> Origin
+    ensures within { (count : ℕ) → IsWithin count result }
+    ensures made { (forms : List NormalForm) (lists : List Pooled)
+        → made forms lists result ≡ (if tableaux.same held value then tableaux.free ∷ [] else []) }
+{
+    if held == value {
+        Origin::Free
+    } else {
+        Origin::Nothing
+    }
+}
+
+impl Pool {
+    /// A pool without lists.
+    pub fn new(alloc: Global) -> Pool
+        ensures { result.lists.items ≡ [] }
+    {
+        Pool {
+            lists: Vec::new(alloc),
+            slots: Vec::new(alloc),
+        }
+    }
+
+    /// Lets all lists go, if they are many.
+    pub(crate) fn clear_if_full(&mut self, alloc: Global)
+        ensures { (forms : List NormalForm) → IsPool forms self.old.lists.items → IsPool forms self.new.lists.items }
+    {
+        if self.lists.len() > MOST_LISTS {
+            *self = Pool::new(alloc);
+        }
+    }
+
+    /// The list of this number; past the last one none.
+    pub fn list(&self, number: usize) -> &[Choice]
+        ensures { result.now ≡ list_at self.now.lists.items number }
+    {
+        list_at(&self.lists, number)
+    }
+
+    /// Whether the list with this number is of the origin.
+    fn is_of(&self, number: usize, origin: Origin) -> bool
+        ensures { OnTrue result (IsAt self.now.lists.items origin number) }
+    {
+        if number >= self.lists.len() {
+            return false;
+        }
+        is_same(self.lists[number].origin, origin)
+    }
+
+    /// The slot of the origin: that of its list, or the first free one.
+    fn slot(&self, origin: Origin) -> usize {
+        let count = self.slots.len();
+        if count == 0 {
+            return 0;
+        }
+        let mut slot = sum_of(origin) % count;
+        for _ in 0..MOST_LOOKS {
+            match self.slots.get(slot) {
+                Some(number) if *number != NONE && !self.is_of(*number as usize, origin) => {
+                    slot = slot.wrapping_add(1) % count;
+                }
+                _ => break,
+            }
+        }
+        slot
+    }
+
+    /// Makes a list of its origin.
+    fn list_of(&self, alloc: Global, origin: Origin) -> Result<Vec<Choice>, AllocError>
+        ensures { IfOk result (λ list. (forms : List NormalForm)
+            → AreCovered (choices_in forms list.items) (made forms self.now.lists.items origin)) }
+    {
+        match origin {
+            Origin::Free => alone(alloc, free(alloc)),
+            Origin::Nothing => Ok(Vec::new(alloc)),
+            Origin::Asked(place) => alone(alloc, asked(alloc, place)?),
+            Origin::PutOff(place) => alone(alloc, put_off(alloc, place)?),
+            Origin::Product(a, b) => product_of(
+                alloc,
+                list_at(&self.lists, a),
+                list_at(&self.lists, b),
+            ),
+            Origin::Union(a, b) => all_of(alloc, list_at(&self.lists, a), list_at(&self.lists, b)),
+        }
+    }
+
+    /// Lets the slot say the number.
+    fn put(&mut self, slot: usize, number: usize)
+        ensures { self.new.lists ≡ self.old.lists }
+    {
+        if slot < self.slots.len() {
+            self.slots[slot] = number.min(NONE as usize) as u32;
+        }
+    }
+
+    /// Makes room for four times as many lists.
+    fn grow(&mut self, alloc: Global) -> Result<(), AllocError>
+        ensures { self.new.lists ≡ self.old.lists }
+    {
+        let room = self.slots.len().saturating_mul(4).max(FIRST_SLOTS);
+        self.slots = vec![in alloc; NONE; room]?;
+        for number in 0..self.lists.len() {
+            let slot = self.slot(self.lists[number].origin);
+            self.put(slot, number);
+        }
+        Ok(())
+    }
+
+    /// Adds a list, and says its number.
+    fn add(&mut self, alloc: Global, list: Pooled) -> Result<usize, AllocError>
+        ensures { IfOk result (λ number. (number ≡ length self.old.lists.items)
+            × (self.new.lists.items ≡ self.old.lists.items ++ list ∷ [])) }
+    {
+        if self.lists.len() >= self.slots.len() / 2 {
+            self.grow(alloc)?;
+        }
+        let number = self.lists.len();
+        let slot = self.slot(list.origin);
+        self.lists.push(list)?;
+        self.put(slot, number);
+        Ok(number)
+    }
+
+    /// The number of the list of an origin, which is made if it isn't there.
+    fn number(&mut self, alloc: Global, origin: Origin) -> Result<usize, AllocError>
+        ensures { IfOk result (λ number. (forms : List NormalForm) → IsPool forms self.old.lists.items
+            → IsWithin (length self.old.lists.items) origin
+            → Has forms self.old.lists.items self.new.lists.items (made forms self.old.lists.items origin) number) }
+    {
+        let slot = self.slot(origin);
+        let number = self.slots.get(slot).copied().unwrap_or(NONE) as usize;
+        if self.is_of(number, origin) {
+            return Ok(number);
+        }
+        let list = self.list_of(alloc, origin)?;
+        self.add(alloc, Pooled { origin, list })
+    }
+
+    /// Whether no choice is in the list with this number.
+    fn is_nothing(&self, number: usize) -> bool
+        ensures { OnTrue result (list_at self.now.lists.items number ≡ []) }
+    {
+        list_at(&self.lists, number).is_empty()
+    }
+
+    /// Whether the list with this number has the choice that asks for nothing, and no other.
+    fn is_free(&self, number: usize) -> bool {
+        match list_at(&self.lists, number) {
+            [choice] => choice.asks.is_empty() && choice.puts.is_empty(),
+            _ => false,
+        }
+    }
+
+    /// The number of what choices of two lists ask for together. Lists that are equal by the laws of products get one number.
+    fn product(&mut self, alloc: Global, a: usize, b: usize) -> Result<usize, AllocError>
+        ensures { IfOk result (λ number. (forms : List NormalForm) (first second : List tableaux.Choice) → IsPool forms self.old.lists.items
+            → Stands forms self.old.lists.items first a → Stands forms self.old.lists.items second b
+            → Has forms self.old.lists.items self.new.lists.items (product first second) number) }
+    {
+        if self.is_nothing(b) || self.is_free(a) {
+            return Ok(b);
+        }
+        if self.is_nothing(a) || self.is_free(b) {
+            return Ok(a);
+        }
+        self.number(alloc, Origin::Product(a, b))
+    }
+
+    /// The number of the choices of two lists.
+    fn union(&mut self, alloc: Global, a: usize, b: usize) -> Result<usize, AllocError>
+        ensures { IfOk result (λ number. (forms : List NormalForm) (first second : List tableaux.Choice) → IsPool forms self.old.lists.items
+            → Stands forms self.old.lists.items first a → Stands forms self.old.lists.items second b
+            → Has forms self.old.lists.items self.new.lists.items (first ++ second) number) }
+    {
+        if self.is_nothing(a) {
+            return Ok(b);
+        }
+        if self.is_nothing(b) {
+            return Ok(a);
+        }
+        self.number(alloc, Origin::Union(a, b))
+    }
+
+    /// The right side now, or the left side now and the Until, at this place, put off.
+    fn until(
+        &mut self,
+        alloc: Global,
+        left: usize,
+        right: usize,
+        place: usize,
+    ) -> Result<usize, AllocError>
+        ensures { IfOk result (λ number. (forms : List NormalForm) (ls rs : List tableaux.Choice) → IsPool forms self.old.lists.items
+            → Stands forms self.old.lists.items ls left → Stands forms self.old.lists.items rs right
+            → Has forms self.old.lists.items self.new.lists.items (rs ++ product ls (tableaux.put_off (part forms place) ∷ [])) number) }
+    {
+        let off = self.number(alloc, Origin::PutOff(place))?;
+        let later = self.product(alloc, left, off)?;
+        self.union(alloc, right, later)
+    }
+
+    /// The right side now, and the left side now or the Release, at this place, again.
+    fn release(
+        &mut self,
+        alloc: Global,
+        left: usize,
+        right: usize,
+        place: usize,
+    ) -> Result<usize, AllocError>
+        ensures { IfOk result (λ number. (forms : List NormalForm) (ls rs : List tableaux.Choice) → IsPool forms self.old.lists.items
+            → Stands forms self.old.lists.items ls left → Stands forms self.old.lists.items rs right
+            → Has forms self.old.lists.items self.new.lists.items (product rs (ls ++ tableaux.asked (part forms place) ∷ [])) number) }
+    {
+        let again = self.number(alloc, Origin::Asked(place))?;
+        let ways = self.union(alloc, left, again)?;
+        self.product(alloc, right, ways)
+    }
+
+    /// The number of the choices of the formula at a place, by those of the formulas before it.
+    fn row(
+        &mut self,
+        alloc: Global,
+        node: NormalNode,
+        rows: &[usize],
+        truths: &[Vec<bool>],
+        letter: u32,
+    ) -> Result<usize, AllocError>
+        requires { normal_reach node ≤ length rows.now }
+        ensures { IfOk result (λ number. (forms : List NormalForm) → IsPool forms self.old.lists.items
+            → AreRows (λ p. truth_at truths.now p letter) forms self.old.lists.items rows.now
+            → part forms (length rows.now) ≡ normal_at forms node
+            → Has forms self.old.lists.items self.new.lists.items
+            (choices (λ p. truth_at truths.now p letter) (part forms (length rows.now))) number) }
+    {
+        let place = rows.len();
+        match node {
+            NormalNode::Top => self.number(alloc, Origin::Free),
+            NormalNode::Bottom => self.number(alloc, Origin::Nothing),
+            NormalNode::Literal(p, value) => self.number(
+                alloc,
+                literal(holds(truths, p, letter), value),
+            ),
+            NormalNode::Both(a, b) => self.product(alloc, rows[a], rows[b]),
+            NormalNode::Either(a, b) => self.union(alloc, rows[a], rows[b]),
+            NormalNode::Next(a) => self.number(alloc, Origin::Asked(a)),
+            NormalNode::Until(a, b) => self.until(alloc, rows[a], rows[b], place),
+            NormalNode::Release(a, b) => self.release(alloc, rows[a], rows[b], place),
+        }
+    }
+
+    /// For each formula of a list the number of its choices at a letter.
+    pub fn rows(
+        &mut self,
+        alloc: Global,
+        nodes: &[NormalNode],
+        truths: &[Vec<bool>],
+        letter: u32,
+    ) -> Result<Vec<usize>, AllocError>
+        requires { AreNormalNodes nodes.now }
+        ensures len { IfOk result (λ rows. length rows.items ≡ length nodes.now) }
+        ensures rows { IfOk result (λ rows. (forms : List NormalForm) → AreForms nodes.now forms → IsPool forms self.old.lists.items
+            → IsPool forms self.new.lists.items
+            × AreRows (λ p. truth_at truths.now p letter) forms self.new.lists.items rows.items) }
+    {
+        let mut rows = Vec::new(alloc);
+        for place in 0..nodes.len() {
+            rows.push(self.row(alloc, node_at(nodes, place), &rows, truths, letter)?)?;
+        }
+        Ok(rows)
+    }
+
+    /// The number of the choices of a set of formulas, by those of each formula.
+    pub fn set(&mut self, alloc: Global, set: &[usize], rows: &[usize]) -> Result<usize, AllocError>
+        requires { All (λ place. place < length rows.now) set.now }
+        ensures { IfOk result (λ number. (forms : List NormalForm) (letter : ℕ → Bool) → IsPool forms self.old.lists.items
+            → AreRows letter forms self.old.lists.items rows.now
+            → Has forms self.old.lists.items self.new.lists.items (choices_of letter (parts forms set.now)) number) }
+    {
+        let mut number = self.number(alloc, Origin::Free)?;
+        let mut i = set.len();
+        while i > 0 {
+            i -= 1;
+            number = self.product(alloc, rows[set[i]], number)?;
+        }
+        Ok(number)
+    }
+
+    /// For each set the number of its choices, by those of each formula.
+    pub(crate) fn numbers(
+        &mut self,
+        alloc: Global,
+        sets: &[Vec<usize>],
+        rows: &[usize],
+    ) -> Result<Vec<usize>, AllocError>
+        requires { All (λ (set : Vec ℕ Global). All (λ place. place < length rows.now) set.items) sets.now }
+        ensures { IfOk result (λ numbers. (forms : List NormalForm) (letter : ℕ → Bool) → IsPool forms self.old.lists.items
+            → AreRows letter forms self.old.lists.items rows.now
+            → IsPool forms self.new.lists.items × AreNumbers letter forms sets.now self.new.lists.items numbers.items) }
+    {
+        let mut numbers = Vec::new(alloc);
+        for set in sets {
+            numbers.push(self.set(alloc, set, rows)?)?;
+        }
+        Ok(numbers)
+    }
+}
