@@ -3,7 +3,8 @@ use Rattle.pg_aiger.proofs.Common.{◌≡◌, ℕ, zero, suc, ◌+◌, ◌*◌, 
 use Rattle.pg_aiger.proofs.Common.{get_or, length-append, arith, refl, sym, subst, ap, ◌∙◌, cases_lt, length-map, get_or_default}
 use Rattle.pg_aiger.proofs.Common.{get_or-append, get_or-append_seam, Gate, Circuit, Latch, AreGatesFrom, IsNumbered, Valuation, value, bit}
 use Rattle.pg_aiger.proofs.Common.{Satisfies, IsRun, IsStepAt, Steps, GoesOn, current, number_of, Agrees, IsValued, latches_from, viewed}
-use Rattle.pg_aiger.proofs.Common.{All}
+use Rattle.pg_aiger.proofs.Common.{All, get_or-map, latch_at, no_latch}
+use Rattle.pg_aiger.specs.Runs.{nexts}
 use Rattle.pg_aiger.proofs.Gates.{even_value}
 use Rattle.pg_aiger.proofs.Numbers.{number_bit, number_same}
 use Rattle.pg_aiger.proofs.Runs.{stepped, the_step}
@@ -75,19 +76,27 @@ step_of_run circuit state letter input count t run r l here comes = record {
   gates = r.gates t l;
 }
 
+next_at : (circuit : Circuit) (j : ℕ) → j < length circuit.latches → get_or (nexts circuit) j 0 ≡ (latch_at circuit j).next
+next_at circuit j l = get_or-map Latch.next circuit.latches j no_latch 0 l
+
 -- the latches of the step that follows are the literals that they take over
-latches_follow : (inputs : ℕ) (ns os : List ℕ) (gates : List Gate) (input : ℕ → ℕ) (count t : ℕ) (run : ℕ → Valuation)
-    → IsRun (viewed inputs ns os gates) input count run → suc t < count
-    → number_of (run (suc t)) (current (viewed inputs ns os gates)) ≡ number_of (run t) ns
-latches_follow inputs ns os gates input count t run r l =
-    let circuit = viewed inputs ns os gates in
-    let count_latches = length_latches (1 + inputs) ns in
-    let mapped = length-map (latches_from (1 + inputs) ns) Latch.literal in
-    number_same (run (suc t)) (run t) (current circuit) ns (omega (arith, count_latches, mapped))
+latches_follow : (circuit : Circuit) (input : ℕ → ℕ) (count t : ℕ) (run : ℕ → Valuation) → IsRun circuit input count run → suc t < count
+    → number_of (run (suc t)) (current circuit) ≡ number_of (run t) (nexts circuit)
+latches_follow circuit input count t run r l =
+    let a = length-map circuit.latches Latch.literal in
+    let b = length-map circuit.latches Latch.next in
+    number_same (run (suc t)) (run t) (current circuit) (nexts circuit) (a ∙ sym b)
     (λ j h.
-    let h' : j < length (latches_from (1 + inputs) ns) = omega (arith, h, mapped) in
-    ap (value (run (suc t))) (current_at circuit j h') ∙ r.later t j l h'
-    ∙ ap (value (run t)) (latch_next (1 + inputs) ns j (omega (arith, h', count_latches))))
+    let h' : j < length circuit.latches = omega (arith, h, a) in
+    ap (value (run (suc t))) (current_at circuit j h') ∙ r.later t j l h' ∙ ap (value (run t)) (sym (next_at circuit j h')))
+
+-- what is so in each valuation of a step is so in each run
+pub circuit_goes_on : (circuit : Circuit) (state letter output next : ℕ)
+    → ((v : Valuation) → IsStepAt circuit state letter v → (output ≡ number_of v circuit.outputs) × (next ≡ number_of v (nexts circuit)))
+    → GoesOn circuit state letter output next
+circuit_goes_on circuit state letter output next each input count t run r l here comes =
+    let both = each (run t) (step_of_run circuit state letter input count t run r l here comes) in
+    (both.0, λ more. both.1 ∙ sym (latches_follow circuit input count t run r more))
 
 -- what is so in each valuation of the step is the step
 pub steps_are : (inputs : ℕ) (ns os : List ℕ) (gates : List Gate) (state letter output next : ℕ) → IsNumbered (viewed inputs ns os gates)
@@ -106,6 +115,6 @@ steps_are inputs ns os gates state letter output next num each =
 pub goes_on : (inputs : ℕ) (ns os : List ℕ) (gates : List Gate) (state letter output next : ℕ)
     → ((v : Valuation) → IsStepAt (viewed inputs ns os gates) state letter v → (output ≡ number_of v os) × (next ≡ number_of v ns))
     → GoesOn (viewed inputs ns os gates) state letter output next
-goes_on inputs ns os gates state letter output next each input count t run r l here comes =
-    let both = each (run t) (step_of_run (viewed inputs ns os gates) state letter input count t run r l here comes) in
-    (both.0, λ more. both.1 ∙ sym (latches_follow inputs ns os gates input count t run r more))
+goes_on inputs ns os gates state letter output next each =
+    circuit_goes_on (viewed inputs ns os gates) state letter output next
+    (λ v is. ((each v is).0, (each v is).1 ∙ ap (number_of v) (sym (nexts_back (1 + inputs) ns))))

@@ -41,7 +41,7 @@ pub use Rattle.pg_arena.specs.declared.player.Player.TheVariants.{Even, Odd}
 pub use Rattle.pg_hoa_automaton.proofs.Collections.{not_not_collected}
 pub use Rattle.pg_hoa_automaton.proofs.Deciding.{decides_last}
 pub use Rattle.pg_hoa_automaton.proofs.ShapeLaws.{shape_says}
-pub use Rattle.pg_hoa_automaton.specs.Automata.{Automaton, IsAutomaton, IsStepOf, Step, deciding, last, letters, next, step}
+pub use Rattle.pg_hoa_automaton.specs.Automata.{Automaton, IsAutomaton, IsStepOf, Step, deciding, first, last, letters, next, step}
 pub use Rattle.pg_hoa_automaton.specs.Formulas.{Formula, holds}
 pub use Rattle.pg_hoa_automaton.specs.Shapes.{Accepts, FitsShape, IsGreatest, IsLeast, condition_of}
 pub use Rattle.pg_hoa_automaton.specs.Words.{HoldsRecurring, IsAccepted, IsWord, SetRecurs, sets_of, state_after, step_at, step_from, target_of}

@@ -56,6 +56,25 @@ unfolding Matters
 arrival_matters shape n None some inc below = absurd (cc some)
 arrival_matters shape n (Some step) some inc below = arrival_meets shape n step.target step.sets inc below
 
+pub meets_by : (a : Automaton) (word met : ℕ → ℕ) → IsAutomaton a → IsWord a word → ((t : ℕ) → IsSome (state_after a word t))
+    → ((t : ℕ) → met (2 * suc t) ≡ place_priority a.shape a.sets (arrival_of a.shape (step_at a word t))) → ((t : ℕ) → met (2 * t + 1) ≡ 0)
+    → Meets a.shape a.sets (λ t. sets_of (step_at a word t)) met
+unfolding Matters
+meets_by a word met is letters_in endless arrivals answers = record {
+  in_range = λ t s h. below t s h;
+  over_none = λ t. (at t).0;
+  over_each = λ t s h. (at t).1 s h;
+  is_one = λ t. (at t).2;
+  answers = answers;
+}
+  where
+    below : (t s : ℕ) → Contains (sets_of (step_at a word t)) s → s < a.sets
+    below t s h = All-contains (λ x. x < a.sets) (sets_of (step_at a word t)) s (sets_good a word is letters_in t).0 h
+
+    at : (t : ℕ) → Matters a.shape a.sets (sets_of (step_at a word t)) (met (2 * suc t))
+    at t = subst (Matters a.shape a.sets (sets_of (step_at a word t))) (sym (arrivals t))
+        (arrival_matters a.shape a.sets (step_at a word t) (endless (suc t)) (sets_good a word is letters_in t).1 (below t))
+
 answer_zero : (shape : Shape) (n : ℕ) (o : Option ℕ) (i : ℕ) → is_some o ≡ true → place_priority shape n (answer_at o i) ≡ 0
 answer_zero shape n None i some = absurd (cc some)
 answer_zero shape n (Some q) i some = refl
@@ -63,26 +82,13 @@ answer_zero shape n (Some q) i some = refl
 pub meets_of : (a : Automaton) (game : List GameVertex) (word play : ℕ → ℕ) → IsAutomaton a → IsWord a word
     → Traces a game word play → ((t : ℕ) → IsSome (state_after a word t))
     → Meets a.shape a.sets (λ t. sets_of (step_at a word t)) (λ u. priority game (play u))
-unfolding Matters
-meets_of a game word play is letters_in tr endless = record {
-  in_range = λ t s h. below t s h;
-  over_none = λ t. (at t).0;
-  over_each = λ t s h. (at t).1 s h;
-  is_one = λ t. (at t).2;
-  answers = λ t. (tr.answers t).prioritised
-      ∙ answer_zero a.shape a.sets (state_after a word t) (input_of a.controllable (word t)) (endless t);
-}
-  where
-    below : (t s : ℕ) → Contains (sets_of (step_at a word t)) s → s < a.sets
-    below t s h = All-contains (λ x. x < a.sets) (sets_of (step_at a word t)) s (sets_good a word is letters_in t).0 h
-
-    at : (t : ℕ) → Matters a.shape a.sets (sets_of (step_at a word t)) (priority game (play (2 * suc t)))
-    at t = subst (Matters a.shape a.sets (sets_of (step_at a word t))) (sym (tr.arrivals (suc t)).prioritised)
-        (arrival_matters a.shape a.sets (step_at a word t) (endless (suc t)) (sets_good a word is letters_in t).1 (below t))
+meets_of a game word play is letters_in tr endless =
+    meets_by a word (λ u. priority game (play u)) is letters_in endless (λ t. (tr.arrivals (suc t)).prioritised)
+    (λ t. (tr.answers t).prioritised ∙ answer_zero a.shape a.sets (state_after a word t) (input_of a.controllable (word t)) (endless t))
 
 -- who wins it
 
-even_iff : (shape : Shape) (n : ℕ) (sets : ℕ → List ℕ) (met : ℕ → ℕ) (c : ℕ → Bool) (p : ℕ) → HasSets shape n
+pub even_iff : (shape : Shape) (n : ℕ) (sets : ℕ → List ℕ) (met : ℕ → ℕ) (c : ℕ → Bool) (p : ℕ) → HasSets shape n
     → Meets shape n sets met → IsGreatestRecurring met p → ((r : ℕ) → r < n → (c r ≡ true) ↔ ListRecurs sets r)
     → (p % 2 ≡ 0) ↔ IsMet shape n c
 even_iff shape n sets met c p has m g just = (to, from)

@@ -3,7 +3,7 @@ use Rattle.pg_synth.proofs.Common.{◌≡◌, ℕ, suc, ◌+◌, ◌<◌, ◌≤
 use Rattle.pg_synth.proofs.Common.{subst, ap, inl, inr, ◌∙◌, Contains, sum_by, IsStrictlyIncreasing, IsPermutation, cases_lt, eqb-true}
 use Rattle.pg_synth.proofs.Common.{eq-eqb, length-map, get_or-map, All-nil, All-cons, Contains-get_or, IsPermutation-refl, sum_by-cons}
 use Rattle.pg_synth.proofs.Common.{sorted_from_strictly_increasing, non_decreasing_from_sorted, GameVertex, identifier, identifiers}
-use Rattle.pg_synth.proofs.Common.{edge_count, Line, line_of, lines_of, rising, rising_rises, rising_length, rising_contains}
+use Rattle.pg_synth.proofs.Common.{edge_count, Line, line_of, rising, rising_rises, rising_length, rising_contains}
 use Rattle.pg_synth.proofs.Common.{contains_cases, contains_here, contains_later, game_from_sound, identifier_is, Automaton, IsAutomaton}
 use Rattle.pg_synth.proofs.Common.{place_in, leads, edges_of, line_at, all_identifiers, game_identifiers, game_lines, Place, Dead}
 use Rattle.std.proofs.Common.{All}

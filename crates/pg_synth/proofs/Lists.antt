@@ -1,8 +1,8 @@
 -- Membership in lists that are made from others.
-use Rattle.pg_synth.proofs.Common.{◌≡◌, ℕ, ◌+◌, ◌<◌, inl, inr, List, [], ◌∷◌, ◌++◌, map, append_assoc, map-id, arith, sym, ap, subst, ◌∙◌}
-use Rattle.pg_synth.proofs.Common.{Contains, flat_map, range_with_len, flat_map_more, Contains-append_left, Contains-append_right}
-use Rattle.pg_synth.proofs.Common.{Contains-append_cases, length-range_with_len, get_or-range_with_len, map-range_with_len_more, rising}
-use Rattle.pg_synth.proofs.Common.{contains_from, has_contained, has_rising, contains_map, contains_mapped}
+use Rattle.pg_synth.proofs.Common.{◌≡◌, ℕ, ◌+◌, ◌<◌, List, [], ◌∷◌, ◌++◌, map, append_assoc, map-id, arith, sym, ap, ◌∙◌}
+use Rattle.pg_synth.proofs.Common.{Contains, flat_map, range_with_len, flat_map_more}
+use Rattle.pg_synth.proofs.Common.{length-range_with_len, get_or-range_with_len, map-range_with_len_more}
+use Rattle.pg_synth.proofs.Common.{contains_map, contains_mapped}
 
 pub in_range : (n i : ℕ) → Contains (range_with_len 0 n) i → i < n
 in_range n i (k, lt, is) =

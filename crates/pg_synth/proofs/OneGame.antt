@@ -1,6 +1,6 @@
 -- An automaton has at most one game.
-use Rattle.pg_synth.proofs.Common.{◌≡◌, ℕ, suc, ◌<◌, List, [], ◌∷◌, length, slice_index_or, Option, arith, refl, sym, subst, ap, ◌∙◌}
-use Rattle.pg_synth.proofs.Common.{Contains, IsStrictlyIncreasing, sorted_from_strictly_increasing, get_or_default, Contains-get_or, Player}
+use Rattle.pg_synth.proofs.Common.{◌≡◌, ℕ, suc, ◌<◌, List, [], ◌∷◌, length, slice_index_or, arith, refl, sym, subst, ap, ◌∙◌}
+use Rattle.pg_synth.proofs.Common.{Contains, get_or_default, Contains-get_or}
 use Rattle.pg_synth.proofs.Common.{GameVertex, IsEdge, vertex_at, identifiers, successors, rising_same, same_vertex, Automaton, StandsFor}
 use Rattle.pg_synth.proofs.Common.{IsGameOfAutomaton, Place}
 use Rattle.pg_synth.proofs.Trace.{identifiers_long, identifier_at, one_number}

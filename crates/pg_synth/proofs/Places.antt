@@ -1,16 +1,15 @@
 -- Identifiers tell places apart, and those of the game are the listed ones.
 use Rattle.pg_synth.proofs.Common.{◌≡◌, ℕ, ◌+◌, ◌*◌, ◌-◌, ◌/◌, ◌%◌, ◌^◌, ◌<◌, inl, inr, true, false, eqb, leb, List, [], ◌∷◌, map, length}
 use Rattle.pg_synth.proofs.Common.{Option, Some, None, arith, refl, sym, subst, ap, ◌∙◌, Contains, All, flat_map, range_with_len}
-use Rattle.pg_synth.proofs.Common.{IsStrictlyIncreasing, ne_eqb, le-leb, lt-leb, div-mul-add, mod-mul-add, pow_pos}
+use Rattle.pg_synth.proofs.Common.{ne_eqb, le-leb, lt-leb, div-mul-add, mod-mul-add, pow_pos}
 use Rattle.pg_synth.proofs.Common.{length-map-range_with_len, All-contains, Contains-append_left, Contains-append_right}
 use Rattle.pg_synth.proofs.Common.{Contains-append_cases, contains_cases, contains_here, contains_later, contains_flat, contains_flattened}
 use Rattle.pg_synth.proofs.Common.{Shape, Step, Automaton, IsAutomaton, letters, next, deciding, joined, inputs, outputs, input_letters}
 use Rattle.pg_synth.proofs.Common.{output_letters, width, place_identifier, arrival_of, IsPlaceOf, Moves, place_within, place_with}
 use Rattle.pg_synth.proofs.Common.{place_in, target, leads, added_by, all_identifiers, game_identifiers, Place, Dead, Arrival, Answer}
-use Rattle.pg_synth.proofs.Common.{rising_contains, contains_rising}
+use Rattle.pg_synth.proofs.Common.{rising_contains, contains_rising, suc, first, last, MaxEven, MaxOdd, MinEven, MinOdd, Always, Never}
 use Rattle.pg_synth.proofs.Letters.{joined_in}
 use Rattle.pg_synth.proofs.Lists.{in_range, range_contains, contains_from_range, range_contained}
-use Rattle.pg_synth.proofs.Ranks.{deciding_cases}
 
 -- ---- an identifier names one place
 
@@ -49,15 +48,25 @@ known a (Answer q i) h =
 
 -- ---- places of the game
 
-pub deciding_below : (shape : Shape) (n : ℕ) (step : Step) (s : ℕ) → All (λ s. s < n) step.sets → IsStrictlyIncreasing step.sets
-    → deciding shape step.sets ≡ Some s → s < n
-deciding_below shape n step s below rise e = elim (deciding_cases shape step.sets rise) [
-  | inl (none, _) ↦ absurd (let w : None ≡ Some s = sym none ∙ e in cc w)
-  | inr (r, is, first) ↦
-      let w : Some r ≡ Some s = sym is ∙ e in
-      let same : r ≡ s = cc w in
-      subst (λ k. k < n) same (All-contains (λ k. k < n) step.sets r below first.occurs)
-]
+first_in : (xs : List ℕ) (s : ℕ) → first xs ≡ Some s → Contains xs s
+first_in [] s e = absurd (cc e)
+first_in (x ∷ xs) s e = (0, omega arith, (let same : x ≡ s = cc e in same))
+
+last_in : (xs : List ℕ) (s : ℕ) → last xs ≡ Some s → Contains xs s
+last_in [] s e = absurd (cc e)
+last_in (x ∷ []) s e = (0, omega arith, (let same : x ≡ s = cc e in same))
+last_in (x ∷ y ∷ ys) s e = let i = last_in (y ∷ ys) s e in (suc i.0, (let lt = i.1 in omega arith), i.2)
+
+deciding_in : (shape : Shape) (xs : List ℕ) (s : ℕ) → deciding shape xs ≡ Some s → Contains xs s
+deciding_in MinEven xs s e = first_in xs s e
+deciding_in MinOdd xs s e = first_in xs s e
+deciding_in MaxEven xs s e = last_in xs s e
+deciding_in MaxOdd xs s e = last_in xs s e
+deciding_in Always xs s e = last_in xs s e
+deciding_in Never xs s e = last_in xs s e
+
+pub deciding_below : (shape : Shape) (xs : List ℕ) (s bound : ℕ) → All (λ x. x < bound) xs → deciding shape xs ≡ Some s → s < bound
+deciding_below shape xs s bound all e = All-contains (λ x. x < bound) xs s all (deciding_in shape xs s e)
 
 pub within_game : (a : Automaton) (x : Place) → IsAutomaton a → IsPlaceOf a x → IsWithin a x
 within_game a Dead is h = tt
@@ -70,7 +79,7 @@ within_game a (Arrival q (Some s)) is (inr (p, letter, lp, ll, e)) = go (next a 
     go (Some step) f d =
         let g = is.steps p letter step lp ll f in
         let same : deciding a.shape step.sets ≡ Some s = cc d in
-        deciding_below a.shape a.sets step s g.sets_below g.sets_rise same
+        deciding_below a.shape step.sets s a.sets g.sets_below same
 within_game a (Answer q i) is h = h.1
 
 pub arrival_below : (a : Automaton) (q : ℕ) (set : Option ℕ) → IsAutomaton a → IsPlaceOf a (Arrival q set) → q < a.states

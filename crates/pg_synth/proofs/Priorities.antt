@@ -1,7 +1,7 @@
 -- The priorities of the game of an automaton.
-use Rattle.pg_synth.proofs.Common.{◌≡◌, ℕ, ◌+◌, ◌*◌, ◌-◌, ◌<◌, ◌≤◌, List, length, Option, Some, None, arith, subst, sym, All}
-use Rattle.pg_synth.proofs.Common.{All-from_get_or, GameVertex, HasPrioritiesUpTo, nowhere, Shape, MaxEven, MaxOdd, MinEven, MinOdd, Always}
-use Rattle.pg_synth.proofs.Common.{Never, Automaton, IsAutomaton, IsGameOfAutomaton, IsPlaceOf, place_priority, set_priority, none_priority}
+use Rattle.pg_synth.proofs.Common.{ℕ, ◌+◌, ◌*◌, ◌<◌, ◌≤◌, List, Some, None, arith}
+use Rattle.pg_synth.proofs.Common.{All-from_get_or, GameVertex, HasPrioritiesUpTo, nowhere, Shape, MaxEven}
+use Rattle.pg_synth.proofs.Common.{Automaton, IsAutomaton, IsGameOfAutomaton, IsPlaceOf, place_priority, set_priority, none_priority}
 use Rattle.pg_synth.proofs.Common.{Place, Dead, Arrival, Answer}
 use Rattle.pg_synth.proofs.Places.{within_game}
 

@@ -1,6 +1,6 @@
 -- Sets are ranked by the priorities of their arrivals, as the shape looks at them.
-use Rattle.pg_synth.proofs.Common.{◌≡◌, ◌↔◌, ℕ, zero, suc, ◌+◌, ◌%◌, ◌<◌, ◌≤◌, ◌⊎◌, inl, inr, Bool, true, false, List, [], ◌∷◌, Some, None}
-use Rattle.pg_synth.proofs.Common.{length, arith, refl, sym, subst, ◌∙◌, Contains, slice_index, AllPairs-from_increasing, Rises}
+use Rattle.pg_synth.proofs.Common.{◌≡◌, ◌↔◌, ℕ, zero, suc, ◌%◌, ◌<◌, ◌≤◌, ◌⊎◌, inl, inr, Bool, true, false, List, [], ◌∷◌, Some, None}
+use Rattle.pg_synth.proofs.Common.{arith, refl, sym, subst, ◌∙◌, Contains, AllPairs-from_increasing, Rises}
 use Rattle.pg_synth.proofs.Common.{contains_none, contains_here, contains_later, contains_cases, pairs_head, pairs_tail}
 use Rattle.pg_synth.proofs.Common.{IsStrictlyIncreasing, cases_lt, Player, Even, Odd, HasParityOf, Shape, MaxEven, MaxOdd, MinEven, MinOdd}
 use Rattle.pg_synth.proofs.Common.{Always, Never, last, deciding, set_priority, none_priority}

@@ -35,9 +35,10 @@ pub(crate) fn layout_of(alloc: Global, automaton: &Automaton) -> Result<Layout, 
 }
 
 /// How many propositions the controller sets.
-pub(crate) fn count_controlled(automaton: &Automaton) -> u32
+pub fn count_controlled(automaton: &Automaton) -> u32
     requires { IsAutomaton automaton.now }
-    ensures { result ≡ outputs automaton.now.controllable }
+    ensures value { result ≡ outputs automaton.now.controllable }
+    ensures within { result ≤ length automaton.now.propositions }
 {
     let mut count = 0;
     for a in 0..automaton.propositions() {
@@ -49,7 +50,7 @@ pub(crate) fn count_controlled(automaton: &Automaton) -> u32
 }
 
 /// For each proposition, whether the controller sets it.
-fn marks(alloc: Global, automaton: &Automaton) -> Result<Vec<bool>, AllocError>
+pub fn marks(alloc: Global, automaton: &Automaton) -> Result<Vec<bool>, AllocError>
     requires { IsAutomaton automaton.now }
     ensures { IfOk result (λ list. list.items ≡ automaton.now.controllable) }
 {
@@ -66,7 +67,7 @@ fn input_parts(alloc: Global, controllable: &[bool]) -> Result<Vec<u32>, AllocEr
         ≡ map (λ i. joined controllable.now i 0) (range_with_len 0 (2 ^ inputs controllable.now))) }
 {
     let mut list = Vec::new(alloc);
-    for input in 0..count_inputs(controllable) {
+    for input in 0..count_input_letters(controllable) {
         list.push(joined(controllable, input, 0))?;
     }
     Ok(list)
@@ -78,42 +79,42 @@ fn output_parts(alloc: Global, controllable: &[bool]) -> Result<Vec<u32>, AllocE
         ≡ map (λ o. joined controllable.now 0 o) (range_with_len 0 (2 ^ outputs controllable.now))) }
 {
     let mut list = Vec::new(alloc);
-    for output in 0..count_outputs(controllable) {
+    for output in 0..count_output_letters(controllable) {
         list.push(joined(controllable, 0, output))?;
     }
     Ok(list)
 }
 
 /// How many input letters there are.
-fn count_inputs(controllable: &[bool]) -> u32
+pub fn count_input_letters(controllable: &[bool]) -> u32
     requires { length controllable.now ≤ 16 }
     ensures { result ≡ 2 ^ inputs controllable.now }
 {
     match controllable {
         [] => 1,
         [first, rest @ ..] => {
-            let others = count_inputs(rest);
+            let others = count_input_letters(rest);
             if *first { others } else { 2 * others }
         }
     }
 }
 
 /// How many output letters there are.
-fn count_outputs(controllable: &[bool]) -> u32
+fn count_output_letters(controllable: &[bool]) -> u32
     requires { length controllable.now ≤ 16 }
     ensures { result ≡ 2 ^ outputs controllable.now }
 {
     match controllable {
         [] => 1,
         [first, rest @ ..] => {
-            let others = count_outputs(rest);
+            let others = count_output_letters(rest);
             if *first { 2 * others } else { others }
         }
     }
 }
 
 /// The letter with these parts.
-fn joined(controllable: &[bool], input: u32, output: u32) -> u32
+pub fn joined(controllable: &[bool], input: u32, output: u32) -> u32
     requires { length controllable.now ≤ 16 }
     ensures { result ≡ joined controllable.now input output }
 {

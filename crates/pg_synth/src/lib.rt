@@ -14,5 +14,6 @@ mod place;
 pub use controller::mealy_of;
 pub use fault::SynthFault;
 pub use game::{SynthGame, game_of};
+pub use layout::{count_controlled, count_input_letters, joined, marks};
 pub use mealy::Mealy;
-pub use place::Place;
+pub use place::{Place, priority_of};

@@ -5,16 +5,16 @@ ghost use Rattle.std.specs.List.{range_with_len, sum_by};
 ghost use Rattle.pg_arena.specs.declared.fault.ArenaFault.TheVariants.{OutOfMemory};
 ghost use Rattle.pg_arena.specs.Lines.{add_fault, IsGameOf};
 ghost use Rattle.pg_list_lemmas.specs.Rising.{rising};
-ghost use Rattle.pg_hoa_automaton.specs.Automata.{deciding, letters};
+ghost use Rattle.pg_hoa_automaton.specs.Automata.{letters};
 ghost use Rattle.pg_synth.specs.AutomatonGames.{IsPlaceOf, input_letters, place_identifier};
 ghost use Rattle.pg_synth.specs.Mirrors.GameLines.{place_in, target, leads, edges_of, line_at, game_identifiers, game_lines};
 ghost use Rattle.pg_synth.specs.Mirrors.Layouts.{IsLayoutOf};
 ghost use Rattle.pg_synth.specs.declared.place.Place.TheVariants.{Answer};
 
 use crate::layout::Layout;
-use crate::place::Place;
+use crate::place::{Place, deciding};
 use pg_arena::{ArenaFault, Game, GameBuilder, MAX_EDGES};
-use pg_hoa_automaton::{Automaton, Shape};
+use pg_hoa_automaton::Automaton;
 use std::alloc::{AllocError, Global};
 
 /// The identifiers of all vertices, the least first.
@@ -203,16 +203,6 @@ pub(crate) fn target(automaton: &Automaton, layout: &Layout, state: u32, letter:
                 Some(set) => first + 1 + set,
             }
         }
-    }
-}
-
-/// The set of a step that counts under a shape.
-fn deciding(shape: Shape, sets: &[u32]) -> Option<u32>
-    ensures { result ≡ deciding shape sets.now }
-{
-    match shape {
-        Shape::MinEven | Shape::MinOdd => sets.first().copied(),
-        _ => sets.last().copied(),
     }
 }
 

@@ -1,7 +1,8 @@
 //! The meaning of the vertices in the game of an automaton.
 
-ghost use Rattle.std.specs.Prelude.{◌≡◌, ◌<◌, ◌≤◌, ◌++◌, decimal, OnOk};
-ghost use Rattle.pg_synth.specs.AutomatonGames.{place_owner, place_priority, place_name, none_priority, set_priority};
+ghost use Rattle.std.specs.Prelude.{◌≡◌, ◌<◌, ◌≤◌, ◌++◌, ℕ, Some, All, decimal, OnOk};
+ghost use Rattle.pg_hoa_automaton.specs.Automata.{step, deciding};
+ghost use Rattle.pg_synth.specs.AutomatonGames.{place_owner, place_priority, place_name, arrival_of, none_priority, set_priority};
 ghost use Rattle.pg_synth.specs.Mirrors.GameLines.{place_with, HasSetBelow};
 
 use itoa::Buffer;
@@ -111,6 +112,28 @@ fn set_priority(shape: Shape, sets: u32, set: u32) -> u32
         Shape::MinEven => 2 * sets + 2 - set,
         Shape::MinOdd => 2 * sets + 3 - set,
         Shape::MaxOdd | Shape::Always | Shape::Never => set + 3,
+    }
+}
+
+/// The set of a step that counts under a shape.
+pub(crate) fn deciding(shape: Shape, sets: &[u32]) -> Option<u32>
+    ensures { result ≡ deciding shape sets.now }
+{
+    match shape {
+        Shape::MinEven | Shape::MinOdd => sets.first().copied(),
+        _ => sets.last().copied(),
+    }
+}
+
+/// The priority of a step that meets these sets, of so many.
+pub fn priority_of(shape: Shape, sets: u32, met: &[u32]) -> u32
+    requires few { sets ≤ 4096 }
+    requires below { All (λ s. s < sets) met.now }
+    ensures { (target : ℕ) → result ≡ place_priority shape sets (arrival_of shape (Some (step target met.now))) }
+{
+    match deciding(shape, met) {
+        None => none_priority(shape, sets),
+        Some(set) => set_priority(shape, sets, set),
     }
 }
 

@@ -12,7 +12,7 @@ use Rattle.pg_aiger.specs.declared.gate.Latch.{Latch}
 use Rattle.pg_aiger.specs.Circuits.{Circuit}
 use Rattle.pg_aiger.specs.Runs.{Valuation, value, bit, GoesOn, IsRun, IsWordOf, current, number_of}
 use Rattle.pg_aiger_netlist.specs.Netlists.{HasOneRun}
-use Rattle.pg_aiger_netlist.proofs.Steps.{goes_on}
+use Rattle.pg_aiger.proofs.Steps.{circuit_goes_on}
 use Rattle.pg_aiger.proofs.Follows.{current_at}
 use Rattle.pg_aiger.proofs.Numbers.{number_is}
 use Rattle.pg_verify.specs.Mirrors.Products.{Pair, pair_at, Leads, IsMove, IsProductOf}
@@ -77,7 +77,7 @@ go_on a circuit p input word is inputs_in many one words t k at =
     move = is.moves k (input t) at.number_in (inputs_in t)
 
     on : GoesOn circuit (pair_at is.pairs k).latches (input t) move.output move.latches
-    on = goes_on circuit (pair_at is.pairs k).latches (input t) move.output move.latches move.gives
+    on = circuit_goes_on circuit (pair_at is.pairs k).latches (input t) move.output move.latches move.gives
 
     run : ℕ → Valuation
     run = (one.some (suc (suc t))).0

@@ -10,12 +10,13 @@ ghost use Rattle.pg_verify.specs.Mirrors.Products.{pair, pair_of, pair_at, Exten
 ghost use Rattle.pg_verify.specs.Products.{IsProductOf};
 
 use crate::fault::VerifyFault;
-use crate::letters::{count_inputs, count_letters, joined, marks};
+use crate::letters::count_inputs;
 use crate::rows::{Row, listed, number_of, set_row};
 use crate::table::store;
 use indexmap::IndexSet;
 use pg_aiger_netlist::Netlist;
 use pg_hoa_automaton::{Automaton, Stored, Table};
+use pg_synth::{count_input_letters, joined, marks};
 use std::alloc::{AllocError, Global};
 use std::collections::BTreeMap;
 
@@ -305,7 +306,7 @@ pub fn product_of(
     let _states = automaton.states();
     let controllable = marks(alloc, automaton)?;
     let inputs = count_inputs(&controllable);
-    let letters = count_letters(&controllable);
+    let letters = count_input_letters(&controllable);
     let draft = explore(alloc, automaton, netlist, &controllable, letters)?;
     let names = names(alloc, inputs)?;
     let none = none_controlled(alloc, inputs)?;

@@ -1,5 +1,5 @@
-use Rattle.pg_synth.proofs.Common.{◌≡◌, ◌+◌, ℕ, ◌<◌, List, Option, Some, None, IsSome, option_map, arith, refl, sym, subst, ap, ◌∙◌}
-use Rattle.pg_synth.proofs.Common.{GameVertex, Step, next, step, joined, input_letters, output_letters, FollowsAt, IsLeastIfAny, IsWonAt}
+use Rattle.pg_synth.proofs.Common.{◌≡◌, ◌+◌, ℕ, ◌<◌, Option, Some, None, IsSome, option_map, arith, refl, sym, subst, ap, ◌∙◌}
+use Rattle.pg_synth.proofs.Common.{Step, next, step, joined, input_letters, output_letters, FollowsAt, IsLeastIfAny, IsWonAt}
 use Rattle.pg_synth.proofs.Choosing.{IsChosen, IsLed, chosen_is, least_is, led_on}
 use Rattle.pg_synth.proofs.Numbers.{count, few_letters_of, letter_is}
 use Rattle.pg_synth.proofs.Places.{letter_in}

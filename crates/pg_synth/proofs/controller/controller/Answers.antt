@@ -21,7 +21,7 @@ loop-number-smaller c =
 
 pub overflow_sub-inputs : goal.overflow_sub-inputs
 overflow_sub-inputs c =
-    omega (arith, both_parts c.args.automaton.now.controllable, c.requires.automaton.marks, c.count_controlled-outputs.ensures, c.propositions.ensures)
+    omega (arith, both_parts c.args.automaton.now.controllable, c.requires.automaton.marks, c.count_controlled-outputs.ensures.value, c.propositions.ensures)
 
 pub overflow_cast-states : goal.overflow_cast-states
 overflow_cast-states c =
@@ -37,8 +37,8 @@ from_parts-requires c =
     (let all : c.loop-number.number ≡ length c.loop-number.draft.states.keys = omega (arith, i.within, c.len.ensures.len, c.loop-number-test.false) in
     i.whole ∙ ap (λ n. n * input_letters a) all)
     c.len-states.ensures.len
-    (omega (arith, both_parts a.controllable, c.requires.automaton.marks, c.count_controlled-outputs.ensures, c.propositions.ensures))
-    c.count_controlled-outputs.ensures
+    (omega (arith, both_parts a.controllable, c.requires.automaton.marks, c.count_controlled-outputs.ensures.value, c.propositions.ensures))
+    c.count_controlled-outputs.ensures.value
 
 pub returns : goal.returns
 returns c =
@@ -49,8 +49,8 @@ returns c =
     (let all : c.loop-number.number ≡ length c.loop-number.draft.states.keys = omega (arith, i.within, c.len.ensures.len, c.loop-number-test.false) in
     i.whole ∙ ap (λ n. n * input_letters a) all)
     c.len-states.ensures.len
-    (omega (arith, both_parts a.controllable, c.requires.automaton.marks, c.count_controlled-outputs.ensures, c.propositions.ensures))
-    c.count_controlled-outputs.ensures in
+    (omega (arith, both_parts a.controllable, c.requires.automaton.marks, c.count_controlled-outputs.ensures.value, c.propositions.ensures))
+    c.count_controlled-outputs.ensures.value in
     let numbering = state_of c.loop-number.draft.states.keys in
     let P : Machine → Type 0 = λ m. IsMachineOf a c.args.synth.now.game c.args.solution.now numbering m × IsInOrder numbering m in
     let there = subst P (sym c.from_parts.ensures) made in

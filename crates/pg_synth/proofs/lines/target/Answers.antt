@@ -39,4 +39,4 @@ overflow_add-result-in-Some-deciding c =
     let e = ap (λ w. c.in-Some.target * w) c.requires.laid.width in
     let same : deciding a.shape step.sets ≡ Some c.in-Some-deciding.set = ap (λ s. deciding s step.sets) (sym c.shape.ensures.value)
     ∙ sym c.in-Some-deciding.ensures in
-    omega (arith, small a c.in-Some.target is g.target_below, e, deciding_below a.shape a.sets step c.in-Some-deciding.set g.sets_below g.sets_rise same)
+    omega (arith, small a c.in-Some.target is g.target_below, e, deciding_below a.shape step.sets c.in-Some-deciding.set a.sets g.sets_below same)

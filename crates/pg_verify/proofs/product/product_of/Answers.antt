@@ -17,11 +17,11 @@ from_parts-requires c =
     let marks' : c.deref-2.result.now ≡ a.controllable = c.deref-2.ensures.value ∙ c.in_ok-controllable.ensures in
     let few = c.in_ok-draft.ensures.few in
     let count_rows = length-map c.in_ok-draft.draft.rows.keys pair_of in
-    let letters = c.count_letters-letters.ensures ∙ ap (λ bs. 2 ^ inputs bs) marks' in
+    let letters = c.count_input_letters-letters.ensures ∙ ap (λ bs. 2 ^ inputs bs) marks' in
     let count = c.count_inputs-inputs.ensures.value ∙ ap inputs marks in
     let t : Table = record {
       states = length c.listed.result.now;
-      letters = c.count_letters-letters.result;
+      letters = c.count_input_letters-letters.result;
       slots = c.in_ok-draft.draft.slots;
       steps = c.in_ok-draft.draft.steps;
       lists = c.in_ok-draft.draft.lists;
@@ -30,12 +30,12 @@ from_parts-requires c =
       states = omega (arith, count_rows, ap length c.listed.ensures.same);
       letters_are = letters;
       draft = c.in_ok-draft.ensures.draft;
-      whole = c.in_ok-draft.ensures.whole ∙ ap (λ n. n * c.count_letters-letters.result) (sym count_rows)
+      whole = c.in_ok-draft.ensures.whole ∙ ap (λ n. n * c.count_input_letters-letters.result) (sym count_rows)
           ∙ ap (λ n. length (map pair_of c.in_ok-draft.draft.rows.keys) * n) letters;
       few = omega (arith, few, count_rows);
       few_steps = few_steps (length (map pair_of c.in_ok-draft.draft.rows.keys)) (input_letters a)
           (subst (λ n. length (map pair_of c.in_ok-draft.draft.rows.keys) ≤ min 65535 (16777216 / n)) letters
-          (subst (λ m. m ≤ min 65535 (16777216 / c.count_letters-letters.result)) (sym count_rows) few));
+          (subst (λ m. m ≤ min 65535 (16777216 / c.count_input_letters-letters.result)) (sym count_rows) few));
     } in
     whole_automaton a c.args.netlist.now (map pair_of c.in_ok-draft.draft.rows.keys) t c.in_ok-names.names.items c.in_ok-none.none.items c.sets.result c.shape.result
     c.states-states.ensures.automaton table (c.in_ok-names.ensures ∙ ap same_names count) (c.in_ok-none.ensures ∙ ap (λ n. replicate n false) count)
@@ -48,11 +48,11 @@ returns-clause-product c =
     let marks' : c.deref-2.result.now ≡ a.controllable = c.deref-2.ensures.value ∙ c.in_ok-controllable.ensures in
     let few = c.in_ok-draft.ensures.few in
     let count_rows = length-map c.in_ok-draft.draft.rows.keys pair_of in
-    let letters = c.count_letters-letters.ensures ∙ ap (λ bs. 2 ^ inputs bs) marks' in
+    let letters = c.count_input_letters-letters.ensures ∙ ap (λ bs. 2 ^ inputs bs) marks' in
     let count = c.count_inputs-inputs.ensures.value ∙ ap inputs marks in
     let t : Table = record {
       states = length c.listed.result.now;
-      letters = c.count_letters-letters.result;
+      letters = c.count_input_letters-letters.result;
       slots = c.in_ok-draft.draft.slots;
       steps = c.in_ok-draft.draft.steps;
       lists = c.in_ok-draft.draft.lists;
@@ -61,12 +61,12 @@ returns-clause-product c =
       states = omega (arith, count_rows, ap length c.listed.ensures.same);
       letters_are = letters;
       draft = c.in_ok-draft.ensures.draft;
-      whole = c.in_ok-draft.ensures.whole ∙ ap (λ n. n * c.count_letters-letters.result) (sym count_rows)
+      whole = c.in_ok-draft.ensures.whole ∙ ap (λ n. n * c.count_input_letters-letters.result) (sym count_rows)
           ∙ ap (λ n. length (map pair_of c.in_ok-draft.draft.rows.keys) * n) letters;
       few = omega (arith, few, count_rows);
       few_steps = few_steps (length (map pair_of c.in_ok-draft.draft.rows.keys)) (input_letters a)
           (subst (λ n. length (map pair_of c.in_ok-draft.draft.rows.keys) ≤ min 65535 (16777216 / n)) letters
-          (subst (λ m. m ≤ min 65535 (16777216 / c.count_letters-letters.result)) (sym count_rows) few));
+          (subst (λ m. m ≤ min 65535 (16777216 / c.count_input_letters-letters.result)) (sym count_rows) few));
     } in
     subst (λ (p : Automaton). IsProductOf a c.args.netlist.now p) (sym c.from_parts.ensures)
     (whole_product a c.args.netlist.now (map pair_of c.in_ok-draft.draft.rows.keys) t c.in_ok-names.names.items c.in_ok-none.none.items c.sets.result c.shape.result
@@ -79,9 +79,9 @@ returns-clause-within c =
     let marks' : c.deref-2.result.now ≡ a.controllable = c.deref-2.ensures.value ∙ c.in_ok-controllable.ensures in
     let few = c.in_ok-draft.ensures.few in
     let count_rows = length-map c.in_ok-draft.draft.rows.keys pair_of in
-    let letters = c.count_letters-letters.ensures ∙ ap (λ bs. 2 ^ inputs bs) marks' in
+    let letters = c.count_input_letters-letters.ensures ∙ ap (λ bs. 2 ^ inputs bs) marks' in
     let pairs = map pair_of c.in_ok-draft.draft.rows.keys in
     not_too_many a c.args.netlist.now pairs c.in_ok-draft.draft.slots.items c.in_ok-draft.draft.steps.items
     (map (λ v. v.items) c.in_ok-draft.draft.lists.items) c.in_ok-draft.ensures.draft
-    (c.in_ok-draft.ensures.whole ∙ ap (λ n. n * c.count_letters-letters.result) (sym count_rows) ∙ ap (λ n. length pairs * n) letters)
-    (subst (λ n. length pairs ≤ min 65535 (16777216 / n)) letters (subst (λ m. m ≤ min 65535 (16777216 / c.count_letters-letters.result)) (sym count_rows) few))
+    (c.in_ok-draft.ensures.whole ∙ ap (λ n. n * c.count_input_letters-letters.result) (sym count_rows) ∙ ap (λ n. length pairs * n) letters)
+    (subst (λ n. length pairs ≤ min 65535 (16777216 / n)) letters (subst (λ m. m ≤ min 65535 (16777216 / c.count_input_letters-letters.result)) (sym count_rows) few))

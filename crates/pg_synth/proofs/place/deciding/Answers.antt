@@ -1,5 +1,5 @@
 use Rattle.pg_synth.proofs.Common.{◌∙◌, decides_last}
-use Rattle.pg_synth.proofs.lines.deciding.Goals as goal
+use Rattle.pg_synth.proofs.place.deciding.Goals as goal
 
 pub returns-in_default : goal.returns-in_default
 returns-in_default c =
