@@ -2,12 +2,10 @@
 
 use crate::codes::Codes;
 use crate::freedom::Freedom;
-use crate::machine::Machine;
 use crate::making::Want;
-use crate::net::{Net, flip};
+use crate::net::{Gate, Net, flip};
 use crate::numbers::{Found, NONE, at, has_bit, item, put, spend};
 use std::alloc::Global;
-use std::ops::Range;
 
 /// How many gates a function may have.
 const MAX_GATES: u32 = 1 << 10;
@@ -21,13 +19,30 @@ pub struct Circuit {
     pub wants: Vec<Want>,
 }
 
-#[derive(Drop)]
-pub enum Answer {
-    Made(Circuit),
-    /// A machine of fewer states does what was chosen.
-    Fewer(Machine),
-    /// It takes too many gates, or too long.
-    None,
+impl Circuit {
+    pub fn size(&self) -> usize {
+        (self.net.len() as usize).saturating_add(self.literals.len())
+    }
+
+    /// Appends the gates to others, where variables from one on are so much greater. Gives the literals there.
+    pub fn append(&self, gates: &mut Vec<Gate>, from: u32, by: u32) -> Found<Vec<u32>> {
+        let shifted = |literal: u32| {
+            let more = if literal / 2 < from { 0 } else { by };
+            literal.saturating_add(more.saturating_mul(2))
+        };
+        for signal in self.net.given..self.net.len() {
+            let Gate { left, right } = self.net.gate(signal);
+            gates.push(Gate {
+                left: shifted(left),
+                right: shifted(right),
+            })?;
+        }
+        let mut literals = Vec::new(self.net.alloc);
+        for literal in &self.literals {
+            literals.push(shifted(*literal))?;
+        }
+        Ok(literals)
+    }
 }
 
 /// A circuit that is being made.
@@ -40,15 +55,15 @@ struct Draft<'a> {
     left: Vec<bool>,
 }
 
-/// The circuit of some bits of a freedom's moves, under codes of its states: first those of output letters, then those of next states. So
-/// many words may be looked at.
+/// The circuit of what is free: output letters, whose bits are made in this order, and then so many bits of next states, under codes of
+/// these. So many words may be looked at.
 pub fn circuit_of(
-    alloc: Global,
     free: &Freedom,
     codes: &Codes,
-    bits: Range<u32>,
+    (order, bits): (&[u32], u32),
     looks: &mut u64,
-) -> Found<Answer> {
+) -> Found<Option<Circuit>> {
+    let alloc = *free.nexts.allocator();
     let given = given_values(alloc, free, codes)?;
     let mut draft = Draft {
         free,
@@ -56,24 +71,23 @@ pub fn circuit_of(
         net: Net::new(alloc, free.points().div_ceil(64), &given, *looks)?,
         left: vec![in alloc; true; free.nexts.len()]?,
     };
-    let mut literals = Vec::new(alloc);
-    let mut wants = Vec::new(alloc);
-    for bit in bits {
-        if bit == free.outputs {
-            let reached = draft.machine()?.reached(alloc)?;
-            if reached.states < free.states {
-                return Ok(Answer::Fewer(reached));
-            }
-        }
-        let Some(literal) = draft.choose(bit)? else {
-            return Ok(Answer::None);
-        };
+    let many = free.outputs.saturating_add(bits);
+    let mut literals = vec![in alloc; 0u32; many as usize]?;
+    for bit in order.iter().copied().chain(free.outputs..many) {
+        let made = draft.choose(bit)?;
         *looks = draft.net.looks;
-        literals.push(literal)?;
-        wants.push(draft.net.want_of(literal)?)?;
+        let Some(literal) = made else {
+            return Ok(None);
+        };
+        put(&mut literals, bit, literal);
     }
-    Ok(Answer::Made(Circuit {
-        net: draft.net.rebuilt(&mut literals, (NONE, 0), &[])?,
+    let net = draft.net.rebuilt(&mut literals, (NONE, 0), &[])?;
+    let mut wants = Vec::new(alloc);
+    for literal in &literals {
+        wants.push(net.want_of(*literal)?)?;
+    }
+    Ok(Some(Circuit {
+        net,
         literals,
         wants,
     }))
@@ -152,23 +166,5 @@ impl Draft<'_> {
             }
         }
         Ok(Some(literal))
-    }
-
-    /// The machine of the first moves that are left.
-    fn machine(&self) -> Found<Machine> {
-        let mut outputs = Vec::new(self.net.alloc);
-        let mut nexts = Vec::new(self.net.alloc);
-        for point in 0..self.free.points() {
-            let mut places = self.free.places(point);
-            let place = places.find(|place| item(&self.left, *place, false));
-            outputs.push(at(&self.free.letters, place.unwrap_or(NONE)))?;
-            nexts.push(at(&self.free.nexts, place.unwrap_or(NONE)))?;
-        }
-        Ok(Machine {
-            states: self.free.states,
-            inputs: self.free.inputs,
-            outputs,
-            nexts,
-        })
     }
 }

@@ -72,6 +72,25 @@ impl Codes {
         Ok(Codes { bits, of })
     }
 
+    /// Gives a state a code; that which has it gets the other.
+    pub fn exchange(&mut self, state: u32, code: u32) {
+        let old = at(&self.of, state);
+        for it in self.of.iter_mut() {
+            if *it == code {
+                *it = old;
+            }
+        }
+        put(&mut self.of, state, code);
+    }
+
+    /// The same codes.
+    pub fn copied(&self) -> Found<Codes> {
+        Ok(Codes {
+            bits: self.bits,
+            of: self.of.clone()?,
+        })
+    }
+
     /// The place of each state among those of the same code.
     fn places(&self, alloc: Global) -> Found<Vec<u32>> {
         let mut order = Vec::new(alloc);

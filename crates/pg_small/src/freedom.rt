@@ -6,7 +6,6 @@ use crate::numbers::{Found, NONE, at, count, item, power, put, spend};
 use crate::product::{Product, places_of};
 use crate::steps::Steps;
 use pg_search_components::{Edges, Rows};
-use std::alloc::Global;
 use std::ops::Range;
 
 /// At each point moves, by rising output letters. Whatever is chosen, every run is accepted, since the measure of each pair serves.
@@ -20,9 +19,8 @@ pub struct Freedom {
     /// Of each move the output letter, and the next state.
     pub letters: Vec<u32>,
     pub nexts: Vec<u32>,
-    /// Where the automaton's edges lead, and where moves: at `letter * states + state`, by input letter and then output letter.
+    /// Where the automaton's edges lead: at `letter * states + state`, by input letter and then output letter.
     pub edges: Vec<u32>,
-    pub own_edges: Vec<u32>,
 }
 
 impl Freedom {
@@ -38,11 +36,11 @@ impl Freedom {
 
     /// No freedom: one move at each point, with these output letters and next states.
     pub fn none(
-        alloc: Global,
         (states, inputs, outputs): (u32, u32, u32),
         letters: Vec<u32>,
         nexts: Vec<u32>,
     ) -> Found<Freedom> {
+        let alloc = *nexts.allocator();
         let mut firsts = Vec::new(alloc);
         for point in 0..=states.wrapping_shl(inputs) {
             firsts.push(point)?;
@@ -55,7 +53,6 @@ impl Freedom {
             letters,
             nexts,
             edges: Vec::new(alloc),
-            own_edges: Vec::new(alloc),
         })
     }
 
@@ -74,7 +71,6 @@ impl Freedom {
             letters: Vec::new(steps.alloc),
             nexts: Vec::new(steps.alloc),
             edges: vec![in steps.alloc; NONE; size]?,
-            own_edges: vec![in steps.alloc; NONE; size]?,
         };
         for point in 0..free.points() {
             free.firsts.push(count(free.nexts.len()))?;
@@ -89,7 +85,6 @@ impl Freedom {
                     looking.next(state, letter, looks)?
                 };
                 if next != NONE {
-                    put(&mut free.own_edges, place, next);
                     free.letters.push(output)?;
                     free.nexts.push(next)?;
                 }
@@ -114,7 +109,8 @@ struct Looking<'a> {
 
 impl<'a> Looking<'a> {
     fn new(machine: &Machine, steps: &'a Steps, looks: &mut u64) -> Found<Option<Looking<'a>>> {
-        let Some(product) = Product::of(machine, steps, looks)? else {
+        let Some(product) = Product::of(machine, steps, &[(0, steps.start)], u32::MAX, looks)?
+        else {
             return Ok(None);
         };
         let Some(measures) = Measures::of(&product.steps(machine, steps)?, looks)? else {

@@ -98,12 +98,13 @@ impl Measures {
     }
 }
 
-/// Whether the controller wins the start.
-pub fn wins_start(steps: &Steps, looks: &mut u64) -> Found<bool> {
+/// Whether the controller wins wherever runs are.
+pub fn loses_none(steps: &Steps, looks: &mut u64) -> Found<bool> {
     let graph = graph_of(steps)?;
-    spend(looks, (graph.edges() as u64).saturating_mul(16));
+    spend(looks, (graph.edges() as u64).saturating_mul(8));
     let winners = find_winners(steps.alloc, &graph)?;
-    Ok(winners.winner.get(steps.start as usize).copied() == Some(Player::Even))
+    let states = winners.winner.iter().take(steps.states as usize);
+    Ok(states.copied().all(|it| it == Player::Even))
 }
 
 /// Takes the steps away that lead to states where the controller loses. For each place whether its step serves the measures: whoever takes

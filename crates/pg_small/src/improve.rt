@@ -6,14 +6,14 @@ use crate::net::{flip, word_of};
 use crate::numbers::{Found, count, item, put};
 
 impl Circuit {
-    /// Makes gates anew wherever that takes fewer, until none becomes fewer or so many words were looked at.
-    pub fn improve(&mut self, looks: &mut u64) -> Found<()> {
+    /// Makes gates anew wherever that takes fewer, or so many more, until they don't become fewer or so many words were looked at.
+    pub fn improve(&mut self, more: u32, looks: &mut u64) -> Found<()> {
         self.net.looks = *looks;
         for _ in 0..u64::MAX {
             let len = self.net.len();
             for signal in (self.net.given..self.net.len()).rev() {
                 if signal < self.net.len() && self.net.looks > 0 {
-                    self.renew(signal)?;
+                    self.renew(signal, more)?;
                 }
             }
             if self.net.len() >= len || self.net.looks == 0 {
@@ -25,18 +25,19 @@ impl Circuit {
     }
 
     /// Makes a gate anew, if that serves.
-    fn renew(&mut self, signal: u32) -> Found<()> {
+    fn renew(&mut self, signal: u32, more: u32) -> Found<()> {
         let (want, behind) = self.want_of(signal)?;
         let len = self.net.len();
         let needed = self.net.needed(&self.literals, (signal, 0), &behind)?;
-        let alone = needed.iter().filter(|it| !**it).count();
+        let alone = count(needed.iter().filter(|it| !**it).count());
+        let most = alone.saturating_sub(1).saturating_add(more);
         self.net.barred = behind.clone()?;
         let mut made = self.net.make(&want, 0)?;
         if made.is_none() {
             for (barred, is_needed) in self.net.barred.iter_mut().zip(&needed) {
                 *barred = *barred || !*is_needed;
             }
-            made = self.net.make(&want, count(alone).saturating_sub(1))?;
+            made = self.net.make(&want, most)?;
         }
         self.net.barred.fill(false);
         if let Some(literal) = made {

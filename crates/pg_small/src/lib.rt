@@ -4,6 +4,8 @@
 
 mod circuit;
 mod codes;
+mod dice;
+mod fewest;
 mod freedom;
 mod game;
 mod improve;
@@ -13,10 +15,10 @@ mod merging;
 mod moore;
 mod net;
 mod numbers;
-mod plain;
 mod product;
 mod proposal;
 mod steps;
+mod tree;
 
 pub use moore::propose_moore;
 pub use net::Gate;

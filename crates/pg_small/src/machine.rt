@@ -78,15 +78,26 @@ impl Machine {
 
     /// The machine of the states that are reached.
     pub fn reached(&self, alloc: Global) -> Found<Machine> {
-        self.led(alloc, NONE, NONE)
+        Machine::met(
+            alloc,
+            self.inputs,
+            self.states,
+            0,
+            |point, _| (at(&self.outputs, point), at(&self.nexts, point)),
+        )
     }
 
     /// The machine that goes to `to` in place of `from`.
     pub fn led(&self, alloc: Global, from: u32, to: u32) -> Found<Machine> {
-        Machine::met(alloc, self.inputs, self.states, 0, |point, _| {
-            let next = at(&self.nexts, point);
-            let next = if next == from { to } else { next };
-            (at(&self.outputs, point), next)
+        let mut nexts = Vec::new(alloc);
+        for next in &self.nexts {
+            nexts.push(if *next == from { to } else { *next })?;
+        }
+        Ok(Machine {
+            states: self.states,
+            inputs: self.inputs,
+            outputs: self.outputs.clone()?,
+            nexts,
         })
     }
 

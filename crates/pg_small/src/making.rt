@@ -21,6 +21,9 @@ impl Want {
     }
 }
 
+/// How many ways are looked at where one gate may do.
+const WAYS: usize = 8;
+
 /// How a literal may serve.
 #[derive(Clone, Copy, PartialEq, Eq)]
 enum Way {
@@ -30,8 +33,6 @@ enum Way {
     Nand,
     /// A choice of something where it holds, and something else where it doesn't.
     Choose,
-    /// As it is.
-    Alone,
 }
 
 /// A literal that serves in a way, and how much it tells for a gate.
@@ -52,31 +53,31 @@ fn shared(words: &[u64], others: &[u64], flip: u64) -> u32 {
 }
 
 impl Net {
-    /// A literal as wanted, of at most `most` new gates, if that is found.
+    /// A literal as wanted, of at most `most` new gates, if that is found: of one gate by several ways, or by the one that tells most. Gates
+    /// are left where none is found.
     #[cycle(making)]
     pub fn make(&mut self, want: &Want, most: u32) -> Found<Option<u32>> {
-        let on = shared(&want.on, &want.on, 0);
-        let off = shared(&want.off, &want.off, 0);
-        if on == 0 || off == 0 {
-            return Ok(Some((on != 0) as u32));
+        let many = (
+            shared(&want.on, &want.on, 0),
+            shared(&want.off, &want.off, 0),
+        );
+        if many.0 == 0 || many.1 == 0 {
+            return Ok(Some((many.0 != 0) as u32));
         }
-        self.look(self.len().saturating_mul(2));
-        let mut best: Option<Candidate> = None;
-        for signal in 0..self.len() {
-            if item(&self.barred, signal, true) {
-                continue;
-            }
-            let it = self.see(signal, want, (on, off));
-            if it.way == Way::Alone {
-                return Ok(Some(it.literal));
-            }
-            if it.gain > best.map_or(0, |other| other.gain) {
-                best = Some(it);
+        let there = self.there(want);
+        if there.is_some() || most == 0 || self.looks == 0 {
+            return Ok(there);
+        }
+        let ways = self.ways(want, many)?;
+        for it in &ways {
+            let made = self.make_by(*it, want, 1)?;
+            if made.is_some() {
+                return Ok(made);
             }
         }
-        match best {
-            Some(best) if most > 0 && self.looks > 0 => self.make_by(best, want, most),
-            _ => Ok(None),
+        match ways.first() {
+            Some(best) => self.make_by(*best, want, most),
+            None => Ok(None),
         }
     }
 
@@ -105,6 +106,38 @@ impl Net {
         let one = self.and(literal, then)?;
         let two = self.and(literal ^ 1, other)?;
         Ok(Some(self.and(one ^ 1, two ^ 1)? ^ 1))
+    }
+
+    /// A literal that is as wanted.
+    fn there(&mut self, want: &Want) -> Option<u32> {
+        self.looks = self.looks.saturating_sub(self.len() as u64 * 2);
+        (0..self.len().saturating_mul(2)).find(|literal| {
+            let turn = flip(*literal);
+            let wants = want.on.iter().zip(&want.off);
+            let mut words = self.values(*literal / 2).iter().zip(wants);
+            let serves = words.all(|(word, (on, off))| {
+                let word = *word ^ turn;
+                !word & *on == 0 && word & *off == 0
+            });
+            serves && !item(&self.barred, *literal / 2, true)
+        })
+    }
+
+    /// The literals that serve, those first that tell most.
+    fn ways(&mut self, want: &Want, many: (u32, u32)) -> Found<Vec<Candidate>> {
+        self.look(self.len().saturating_mul(2));
+        let mut ways = Vec::new(self.alloc);
+        for signal in 0..self.len() {
+            if !item(&self.barred, signal, true) {
+                let it = self.see(signal, want, many);
+                if it.gain > 0 {
+                    ways.push(it)?;
+                }
+            }
+        }
+        ways.sort_by_key(|it: &Candidate| u32::MAX - it.gain)?;
+        ways.truncate(WAYS);
+        Ok(ways)
     }
 
     /// The values of a literal as what is wanted.
@@ -142,12 +175,10 @@ impl Net {
             off_zero |= !*word & *off;
         }
         let literal = signal.saturating_mul(2);
-        let (literal, way) = match (on_zero, off_one, on_one, off_zero) {
-            (0, 0, _, _) => (literal, Way::Alone),
-            (_, _, 0, 0) => (literal | 1, Way::Alone),
+        let (literal, way) = match (on_zero, on_one, off_one, off_zero) {
             (0, _, _, _) => (literal, Way::And),
-            (_, _, 0, _) => (literal | 1, Way::And),
-            (_, 0, _, _) => (literal | 1, Way::Nand),
+            (_, 0, _, _) => (literal | 1, Way::And),
+            (_, _, 0, _) => (literal | 1, Way::Nand),
             (_, _, _, 0) => (literal, Way::Nand),
             _ => (literal, Way::Choose),
         };

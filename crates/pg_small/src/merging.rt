@@ -1,37 +1,59 @@
 //! States of a machine that may answer alike are made one.
 
-use crate::game::wins_start;
+use crate::game::loses_none;
 use crate::machine::Machine;
-use crate::numbers::{Found, spend};
-use crate::product::Product;
+use crate::numbers::{Found, at, spend};
+use crate::product::{Product, places_of};
 use crate::steps::Steps;
+use pg_search_components::Edges;
 
 /// A machine with fewer states, or the same: states are left out where another one may take their place, since all runs are accepted then
 /// too.
 pub fn merged(machine: Machine, steps: &Steps, looks: &mut u64) -> Found<Machine> {
-    let mut merged = machine;
-    for state in (1..merged.states).rev() {
-        for other in 0..merged.states {
-            if state >= merged.states {
-                break;
+    let mut machine = machine;
+    for _ in 0..u32::MAX {
+        let before = machine.states;
+        for state in (1..before).rev() {
+            if state < machine.states {
+                if let Some(fewer) = without(&machine, state, steps, looks)? {
+                    machine = fewer;
+                }
             }
-            if !spend(looks, merged.nexts.len() as u64) {
-                return Ok(merged);
-            }
-            let tried = merged.led(steps.alloc, state, other)?;
-            if state != other && is_accepted(&tried, steps, looks)? {
-                merged = tried;
-                break;
+        }
+        if machine.states >= before || *looks == 0 {
+            break;
+        }
+    }
+    Ok(machine)
+}
+
+/// The machine without a state, if another one may take its place. Only runs through that one are new.
+fn without(
+    machine: &Machine,
+    state: u32,
+    steps: &Steps,
+    looks: &mut u64,
+) -> Found<Option<Machine>> {
+    let start = [(0, steps.start)];
+    let Some(product) = Product::of(machine, steps, &start, u32::MAX, looks)? else {
+        return Ok(None);
+    };
+    let most = product.len().saturating_mul(4).saturating_add(256);
+    let rows = places_of(steps.alloc, &product.states, machine.states)?;
+    for other in 0..machine.states {
+        if other == state || !spend(looks, machine.nexts.len() as u64 / 16) {
+            continue;
+        }
+        let tried = machine.led(steps.alloc, state, other)?;
+        let mut starts = Vec::new(steps.alloc);
+        for pair in rows.targets(state) {
+            starts.push((other, at(&product.besides, *pair)))?;
+        }
+        if let Some(product) = Product::of(&tried, steps, &starts, most, looks)? {
+            if loses_none(&product.steps(&tried, steps)?, looks)? {
+                return Ok(Some(tried.reached(steps.alloc)?));
             }
         }
     }
-    Ok(merged)
-}
-
-/// Whether the automaton accepts all runs of a machine.
-fn is_accepted(machine: &Machine, steps: &Steps, looks: &mut u64) -> Found<bool> {
-    let Some(product) = Product::of(machine, steps, looks)? else {
-        return Ok(false);
-    };
-    wins_start(&product.steps(machine, steps)?, looks)
+    Ok(None)
 }

@@ -1,23 +1,21 @@
 //! Circuits whose outputs depend on latches alone, for a controller that chooses its output letter ahead of the input letter.
 
-use crate::circuit::{Answer, Circuit, circuit_of};
+use crate::circuit::{Circuit, circuit_of};
 use crate::codes::{Codes, Columns};
 use crate::freedom::Freedom;
 use crate::game::Draft;
 use crate::machine::Machine;
 use crate::merging::merged;
-use crate::net::Gate;
 use crate::numbers::{Found, at, count, power};
-use crate::plain::plain;
 use crate::proposal::{Proposal, STEPS, TRIES, WORDS};
 use crate::steps::Steps;
+use crate::tree::tree_of;
 use pg_arena::Player;
 use pg_hoa_automaton::Automaton;
 use pg_search_winners::find_winners;
 use std::alloc::{AllocError, Global};
-use std::ops::Range;
 
-/// As `propose`, but a circuit's outputs don't depend on inputs of the same step. The last one is plain.
+/// As `propose`, but a circuit's outputs don't depend on inputs of the same step.
 pub fn propose_moore(alloc: Global, automaton: &Automaton) -> Result<Vec<Proposal>, AllocError> {
     let mut proposals = Vec::new(alloc);
     let Some(steps) = Steps::of(alloc, automaton)? else {
@@ -28,19 +26,16 @@ pub fn propose_moore(alloc: Global, automaton: &Automaton) -> Result<Vec<Proposa
     };
     let machine = Machine::ahead(&steps, &letters)?;
     let machine = merged(machine, &steps, &mut { TRIES })?;
-    let machine = machine.reached(alloc)?;
-    let (mut making, mut improving) = (WORDS, WORDS);
+    let mut words = WORDS;
     for is_counted in [false, true] {
-        let mut budgets = (&mut making, &mut improving);
-        let parts = parts_of(&steps, &machine, is_counted, &mut budgets)?;
-        if let Some((first, second)) = parts {
-            proposals.push(joined(&steps, &first, &second)?)?;
+        if let Some(proposal) = proposal_of(&steps, &machine, is_counted, &mut words)? {
+            proposals.push(proposal)?;
         }
     }
-    proposals.sort_by_key(|it: &Proposal| it.gates.len().saturating_add(it.latches.len()))?;
-    if let Some(last) = plain(&machine, &steps)? {
+    if let Some(last) = tree_of(&machine, &steps)? {
         proposals.push(last)?;
     }
+    proposals.sort_by_key(|it: &Proposal| it.size())?;
     Ok(proposals)
 }
 
@@ -69,101 +64,76 @@ fn letters_of(steps: &Steps) -> Found<Option<Vec<u32>>> {
     Ok(Some(letters))
 }
 
-/// A circuit of the output letters, of latches alone, and one of the next states.
-fn parts_of(
-    steps: &Steps,
-    machine: &Machine,
-    is_counted: bool,
-    budgets: &mut (&mut u64, &mut u64),
-) -> Found<Option<(Circuit, Circuit)>> {
-    let alloc = steps.alloc;
+/// Codes of a machine's states: by parts, or counted.
+fn codes_of(machine: &Machine, is_counted: bool) -> Found<Option<Codes>> {
+    let alloc = *machine.nexts.allocator();
+    let (inputs, states) = (machine.inputs, machine.states);
     let mut edges = Vec::new(alloc);
-    for input in 0..if is_counted { 0 } else { power(machine.inputs) } {
-        for state in 0..machine.states {
-            let point = state.wrapping_shl(machine.inputs).wrapping_add(input);
+    for input in 0..if is_counted { 0 } else { power(inputs) } {
+        for state in 0..states {
+            let point = state.wrapping_shl(inputs).wrapping_add(input);
             edges.push(at(&machine.nexts, point))?;
         }
     }
     let columns = Columns {
         alloc,
-        states: machine.states,
+        states,
         edges: &edges,
     };
-    let Some(codes) = Codes::new(columns, &mut { STEPS })? else {
+    Codes::new(columns, &mut { STEPS })
+}
+
+/// A circuit of the output letters, of latches alone, and behind it one of the next states.
+fn proposal_of(
+    steps: &Steps,
+    machine: &Machine,
+    is_counted: bool,
+    words: &mut u64,
+) -> Found<Option<Proposal>> {
+    let alloc = steps.alloc;
+    let (inputs, states) = (machine.inputs, machine.states);
+    let Some(codes) = codes_of(machine, is_counted)? else {
         return Ok(None);
     };
     let mut letters = Vec::new(alloc);
-    for state in 0..machine.states {
-        letters.push(at(&machine.outputs, state.wrapping_shl(machine.inputs)))?;
+    let mut order = Vec::new(alloc);
+    for state in 0..states {
+        letters.push(at(&machine.outputs, state.wrapping_shl(inputs)))?;
+    }
+    for output in 0..steps.outputs {
+        order.push(output)?;
     }
     let zeros = vec![in alloc; 0u32; letters.len()]?;
-    let shape = (machine.states, 0, steps.outputs);
-    let free = Freedom::none(alloc, shape, letters, zeros)?;
-    let Some(first) = part(&free, &codes, 0..steps.outputs, budgets)? else {
+    let free = Freedom::none((states, 0, steps.outputs), letters, zeros)?;
+    let Some(first) = part(&free, &codes, (&order, 0), words)? else {
         return Ok(None);
     };
     let zeros = vec![in alloc; 0u32; machine.nexts.len()]?;
-    let shape = (machine.states, machine.inputs, 0);
-    let free = Freedom::none(alloc, shape, zeros, machine.nexts.clone()?)?;
-    let second = part(&free, &codes, 0..codes.bits, budgets)?;
-    Ok(second.map(|it| (first, it)))
+    let free = Freedom::none((states, inputs, 0), zeros, machine.nexts.clone()?)?;
+    let Some(second) = part(&free, &codes, (&[], codes.bits), words)? else {
+        return Ok(None);
+    };
+    let mut gates = Vec::new(alloc);
+    let outputs = first.append(&mut gates, 1, inputs)?;
+    let by = count(gates.len());
+    let latches = second.append(&mut gates, second.net.given, by)?;
+    Ok(Some(Proposal {
+        latches,
+        outputs,
+        gates,
+    }))
 }
 
-/// A circuit of some bits, made small.
+/// A circuit of a part of what machines do, made small.
 fn part(
     free: &Freedom,
     codes: &Codes,
-    bits: Range<u32>,
-    (making, improving): &mut (&mut u64, &mut u64),
+    bits: (&[u32], u32),
+    words: &mut u64,
 ) -> Found<Option<Circuit>> {
-    let alloc = *free.nexts.allocator();
-    match circuit_of(alloc, free, codes, bits, making)? {
-        Answer::Made(mut circuit) => {
-            circuit.improve(improving)?;
-            Ok(Some(circuit))
-        }
-        _ => Ok(None),
-    }
-}
-
-/// A literal as it is where variables from one on are so much greater.
-fn shifted(literal: u32, from: u32, by: u32) -> u32 {
-    if literal / 2 < from {
-        return literal;
-    }
-    literal.saturating_add(by.saturating_mul(2))
-}
-
-/// Appends the gates of a circuit, whose variables from one on are so much greater there.
-fn append(gates: &mut Vec<Gate>, circuit: &Circuit, from: u32, by: u32) -> Found<()> {
-    for signal in circuit.net.given..circuit.net.len() {
-        let Gate { left, right } = circuit.net.gate(signal);
-        gates.push(Gate {
-            left: shifted(left, from, by),
-            right: shifted(right, from, by),
-        })?;
-    }
-    Ok(())
-}
-
-/// The literals of a circuit.
-fn literals_of(steps: &Steps, circuit: &Circuit, from: u32, by: u32) -> Found<Vec<u32>> {
-    let mut literals = Vec::new(steps.alloc);
-    for literal in &circuit.literals {
-        literals.push(shifted(*literal, from, by))?;
-    }
-    Ok(literals)
-}
-
-/// Both circuits as one: the gates of outputs come first.
-fn joined(steps: &Steps, first: &Circuit, second: &Circuit) -> Found<Proposal> {
-    let mut gates = Vec::new(steps.alloc);
-    append(&mut gates, first, 1, steps.inputs)?;
-    let by = count(gates.len());
-    append(&mut gates, second, second.net.given, by)?;
-    Ok(Proposal {
-        latches: literals_of(steps, second, second.net.given, by)?,
-        outputs: literals_of(steps, first, 1, steps.inputs)?,
-        gates,
-    })
+    let Some(mut circuit) = circuit_of(free, codes, bits, words)? else {
+        return Ok(None);
+    };
+    circuit.improve(0, &mut { WORDS / 4 })?;
+    Ok(Some(circuit))
 }

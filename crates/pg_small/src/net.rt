@@ -11,8 +11,8 @@ pub struct Gate {
     pub right: u32,
 }
 
-/// How many places there are for signals at first: a power of two.
-const FIRST_PLACES: usize = 64;
+/// How many places there are for signals: a power of two.
+const PLACES: u32 = 1 << 12;
 
 /// Signal 0 is false; then come those that are given, and then gates.
 #[derive(Drop)]
@@ -25,7 +25,7 @@ pub struct Net {
     gates: Vec<Gate>,
     /// The values of all signals.
     pub values: Vec<u64>,
-    /// Signals by their values: each stands at the place that these tell, or behind it, and those of the same values in their order.
+    /// Signals at places that their values tell: the last one at each, though it may be gone.
     places: Vec<u32>,
     /// Signals that may not be used.
     pub barred: Vec<bool>,
@@ -53,7 +53,7 @@ impl Net {
             given: 0,
             gates: Vec::new(alloc),
             values: Vec::from_slice(alloc, given)?,
-            places: vec![in alloc; NONE; FIRST_PLACES]?,
+            places: vec![in alloc; NONE; PLACES as usize]?,
             barred: Vec::new(alloc),
             looks,
         };
@@ -91,10 +91,6 @@ impl Net {
 
     /// Takes the last signals back, so that so many stay.
     pub fn cut(&mut self, len: u32) {
-        for signal in (len..self.len()).rev() {
-            let place = self.place(self.values(signal), |other| other == signal);
-            put(&mut self.places, place, NONE);
-        }
         self.gates.truncate(len as usize);
         self.barred.truncate(len as usize);
         let words = (len as usize).saturating_mul(self.words as usize);
@@ -104,65 +100,37 @@ impl Net {
     /// Adds a signal whose values are there.
     fn add(&mut self, gate: Gate) -> Found<()> {
         let signal = self.len();
+        let place = self.place(self.values(signal));
+        put(&mut self.places, place, signal);
         self.gates.push(gate)?;
         self.barred.push(false)?;
-        if self.gates.len() <= self.places.len() / 2 {
-            self.enter(signal);
-            return Ok(());
-        }
-        let many = self.places.len().saturating_mul(2);
-        self.places.clear();
-        self.places.resize(many, NONE)?;
-        for signal in 0..self.len() {
-            self.enter(signal);
-        }
         Ok(())
     }
 
-    /// Puts a signal at its place.
-    fn enter(&mut self, signal: u32) {
-        let place = self.place(self.values(signal), |_| false);
-        put(&mut self.places, place, signal);
-    }
-
-    /// The place of the first signal that is wanted, among those which may have these values or their negation; else the first free one.
-    fn place<F: Fn(u32) -> bool>(&self, values: &[u64], is_wanted: F) -> u32
-        requires { F.IsAlwaysCallable is_wanted }
-    {
+    /// The place of signals with these values or their negation.
+    fn place(&self, values: &[u64]) -> u32 {
         let turn = flip((item(values, 0, 0) & 1) as u32);
         let mut mixed = 0u64;
         for word in values {
             mixed = (mixed ^ *word ^ turn).wrapping_mul(0x9e37_79b9_7f4a_7c15);
             mixed ^= mixed >> 29;
         }
-        let mask = count(self.places.len()).saturating_sub(1);
-        let mut place = (mixed >> 32) as u32 & mask;
-        for _ in 0..self.places.len() {
-            let signal = at(&self.places, place);
-            if signal == NONE || is_wanted(signal) {
-                break;
-            }
-            place = place.wrapping_add(1) & mask;
-        }
-        place
+        (mixed >> 32) as u32 & (PLACES - 1)
     }
 
     /// A literal that may be used and has the values that are last, of which no signal is made yet; or `NONE`.
     fn find(&self) -> u32 {
         let values = self.values(self.len());
-        let flips = |signal: u32| {
-            let others = self.values(signal);
-            ((item(values, 0, 0) ^ item(others, 0, 0)) & 1) as u32
-        };
-        let place = self.place(values, |signal| {
-            let turn = flip(flips(signal));
-            let mut pairs = values.iter().zip(self.values(signal));
-            !item(&self.barred, signal, true) && pairs.all(|(word, other)| *word ^ *other == turn)
-        });
-        match at(&self.places, place) {
-            NONE => NONE,
-            signal => signal.saturating_mul(2) | flips(signal),
+        let signal = at(&self.places, self.place(values));
+        let others = self.values(signal);
+        let flips = ((item(values, 0, 0) ^ item(others, 0, 0)) & 1) as u32;
+        let mut pairs = values.iter().zip(others);
+        if item(&self.barred, signal, true)
+            || !pairs.all(|(word, other)| *word ^ *other == flip(flips))
+        {
+            return NONE;
         }
+        signal.saturating_mul(2) | flips
     }
 
     /// The conjunction of two literals.

@@ -22,7 +22,13 @@ pub struct Product {
 
 impl Product {
     /// The product of a machine; none where the automaton has no edge for a step, or that takes too long, as with too many pairs.
-    pub fn of(machine: &Machine, steps: &Steps, looks: &mut u64) -> Found<Option<Product>> {
+    pub fn of(
+        machine: &Machine,
+        steps: &Steps,
+        starts: &[(u32, u32)],
+        most: u32,
+        looks: &mut u64,
+    ) -> Found<Option<Product>> {
         let many = (machine.states as u64).saturating_mul(steps.states as u64);
         if many > MAX_PAIRS || !spend(looks, many / 16) {
             *looks = 0;
@@ -34,11 +40,16 @@ impl Product {
             numbers: vec![in steps.alloc; NONE; many as usize]?,
             width: steps.states,
         };
-        product.meet(0, steps.start)?;
+        for (state, beside) in starts {
+            product.meet(*state, *beside)?;
+        }
         for place in 0..u32::MAX {
             let state = at(&product.states, place);
             if state == NONE {
                 break;
+            }
+            if count(product.states.len()) > most {
+                return Ok(None);
             }
             for point in points(state, machine.inputs) {
                 let step = machine.step(steps, at(&product.besides, place), point);
@@ -49,6 +60,10 @@ impl Product {
             }
         }
         Ok(Some(product))
+    }
+
+    pub fn len(&self) -> u32 {
+        count(self.states.len())
     }
 
     /// The number of a pair, or `NONE`.

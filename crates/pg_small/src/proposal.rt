@@ -1,24 +1,32 @@
 //! Small circuits: machines of few states, their freedom, codes of their states, and nets.
 
-use crate::circuit::{Answer, Circuit, circuit_of};
+use crate::circuit::{Circuit, circuit_of};
 use crate::codes::{Codes, Columns};
+use crate::dice::Dice;
+use crate::fewest::keep_few;
 use crate::freedom::Freedom;
 use crate::game::winning_moves;
 use crate::machine::Machine;
 use crate::merging::merged;
 use crate::net::Gate;
-use crate::numbers::Found;
+use crate::numbers::{Found, power};
 use crate::steps::Steps;
+use crate::tree::tree_of;
 use pg_hoa_automaton::Automaton;
 use std::alloc::{AllocError, Global};
 
-/// How much may be looked at: steps where machines are looked for, what these may do instead, and codes, and words of values where circuits
-/// are made and made anew.
+/// How much may be looked at: steps where machines are looked for, what these may do instead, and codes; and steps where states are made one.
 pub const STEPS: u64 = 1 << 24;
 
-pub const TRIES: u64 = 1 << 26;
+pub const TRIES: u64 = 1 << 25;
 
-pub const WORDS: u64 = 1 << 26;
+/// How many words of values may be looked at where circuits are made, and each time that they are made anew.
+pub const WORDS: u64 = 1 << 25;
+
+/// How many other codes and orders of outputs are tried, and how many words may be looked at for each.
+const TURNS: u32 = 60;
+
+const WORDS_OF_TURN: u64 = 1 << 20;
 
 /// A circuit. Its variables from 1 on are the automaton's inputs, in the order of its propositions, then latches, then gates, each of which
 /// is over literals of smaller variables. A literal is twice a variable, plus one where it is negated; 0 is false. All latches begin as 0.
@@ -31,95 +39,144 @@ pub struct Proposal {
     pub gates: Vec<Gate>,
 }
 
-/// How states get codes.
-#[derive(Clone, Copy)]
-enum Kind {
-    /// By parts that go on by themselves, whatever edge of the automaton is taken, or whatever move.
-    Edges,
-    Moves,
-    Counted,
-}
-
-/// Small circuits, the smallest first, that are to be such that the automaton accepts all their runs: at most three, and none where the
-/// controller loses or the automaton is too large. Refuses only where memory runs out.
-pub fn propose(alloc: Global, automaton: &Automaton) -> Result<Vec<Proposal>, AllocError> {
-    match Steps::of(alloc, automaton)? {
-        Some(steps) => proposals_of(steps),
-        None => Ok(Vec::new(alloc)),
+impl Proposal {
+    pub fn size(&self) -> usize {
+        self.gates.len().saturating_add(self.latches.len())
     }
 }
 
-/// Circuits for the controller of these steps.
-fn proposals_of(steps: Steps) -> Found<Vec<Proposal>> {
-    let mut steps = steps;
-    let mut proposals = Vec::new(steps.alloc);
+/// Small circuits, the smallest first, that are to be such that the automaton accepts all their runs: at most two, and none where the
+/// controller loses or the automaton is too large. Refuses only where memory runs out.
+pub fn propose(alloc: Global, automaton: &Automaton) -> Result<Vec<Proposal>, AllocError> {
+    let mut proposals = Vec::new(alloc);
+    let Some(mut steps) = Steps::of(alloc, automaton)? else {
+        return Ok(proposals);
+    };
     let Some(moves) = winning_moves(&mut steps, &mut { STEPS })? else {
         return Ok(proposals);
     };
-    let machine = Machine::choose(&steps, &moves)?;
-    let machine = merged(machine, &steps, &mut { TRIES })?;
-    let (mut making, mut improving) = (WORDS, WORDS);
-    for kind in [Kind::Edges, Kind::Moves, Kind::Counted] {
-        if let Some(mut circuit) = circuit_by(&steps, &machine, kind, &mut making)? {
-            circuit.improve(&mut improving)?;
-            proposals.push(proposal_of(&steps, &circuit)?)?;
-        }
+    let machine = small_machine(&steps, moves)?;
+    if let Some(mut draft) = best_draft(&steps, &machine)? {
+        draft.search()?;
+        draft.circuit.improve(0, &mut { WORDS })?;
+        draft.circuit.improve(1, &mut { WORDS })?;
+        let mut gates = Vec::new(alloc);
+        let literals = draft.circuit.append(&mut gates, 0, 0)?;
+        let (outputs, latches) = literals.split_at(draft.order.len().min(literals.len()));
+        proposals.push(Proposal {
+            latches: Vec::from_slice(alloc, latches)?,
+            outputs: Vec::from_slice(alloc, outputs)?,
+            gates,
+        })?;
     }
-    proposals.sort_by_key(|it: &Proposal| it.gates.len().saturating_add(it.latches.len()))?;
+    if let Some(last) = tree_of(&machine, &steps)? {
+        proposals.push(last)?;
+    }
+    proposals.sort_by_key(|it: &Proposal| it.size())?;
     Ok(proposals)
 }
 
-/// The circuit of what is free beside a machine, with codes of a kind for the states that it reaches.
-fn circuit_by(
-    steps: &Steps,
-    machine: &Machine,
-    kind: Kind,
-    words: &mut u64,
-) -> Found<Option<Circuit>> {
-    let mut looks = STEPS;
-    let mut here = machine.reached(steps.alloc)?;
-    for _ in 0..machine.states {
-        let Some(free) = Freedom::of(&here, steps, &mut looks)? else {
-            break;
+/// A machine that makes such moves: of few states from the start, or else of any.
+fn small_machine(steps: &Steps, moves: Vec<bool>) -> Found<Machine> {
+    let mut moves = moves;
+    let any = Machine::choose(steps, &moves)?;
+    keep_few(steps, &mut moves, &mut { STEPS })?;
+    let mut tries = TRIES;
+    let few = merged(Machine::choose(steps, &moves)?, steps, &mut tries)?;
+    let any = merged(any, steps, &mut tries.saturating_sub(TRIES / 2))?;
+    Ok(if any.states < few.states { any } else { few })
+}
+
+/// A circuit, and what it is made of.
+#[derive(Drop)]
+struct Draft {
+    free: Freedom,
+    codes: Codes,
+    /// Which output is made after which.
+    order: Vec<u32>,
+    circuit: Circuit,
+}
+
+/// The smaller one of the circuits with codes by parts and with counted codes.
+fn best_draft(steps: &Steps, machine: &Machine) -> Found<Option<Draft>> {
+    let mut words = WORDS;
+    let mut best: Option<Draft> = None;
+    for is_counted in [false, true] {
+        let Some(mut draft) = draft_of(steps, machine, is_counted, &mut words)? else {
+            continue;
         };
-        let columns = Columns {
-            alloc: steps.alloc,
-            states: free.states,
-            edges: edges_of(&free, kind),
-        };
-        let Some(codes) = Codes::new(columns, &mut looks)? else {
-            break;
-        };
-        let bits = 0..free.outputs.saturating_add(codes.bits);
-        match circuit_of(steps.alloc, &free, &codes, bits, words)? {
-            Answer::Made(circuit) => return Ok(Some(circuit)),
-            Answer::Fewer(fewer) => here = fewer,
-            Answer::None => break,
+        draft.circuit.improve(0, &mut { WORDS / 2 })?;
+        let size = draft.circuit.size();
+        if best.as_ref().map_or(true, |it| size < it.circuit.size()) {
+            best = Some(draft);
         }
     }
-    Ok(None)
+    Ok(best)
 }
 
-fn edges_of(free: &Freedom, kind: Kind) -> &[u32] {
-    match kind {
-        Kind::Edges => &free.edges,
-        Kind::Moves => &free.own_edges,
-        Kind::Counted => &[],
+/// The circuit of what is free beside a machine, with codes for its states.
+fn draft_of(
+    steps: &Steps,
+    machine: &Machine,
+    is_counted: bool,
+    words: &mut u64,
+) -> Found<Option<Draft>> {
+    let mut looks = STEPS;
+    let Some(free) = Freedom::of(machine, steps, &mut looks)? else {
+        return Ok(None);
+    };
+    let many = if is_counted { 0 } else { free.edges.len() };
+    let columns = Columns {
+        alloc: steps.alloc,
+        states: free.states,
+        edges: &free.edges[..many],
+    };
+    let Some(codes) = Codes::new(columns, &mut looks)? else {
+        return Ok(None);
+    };
+    let mut order = Vec::new(steps.alloc);
+    for output in 0..free.outputs {
+        order.push(output)?;
     }
+    let Some(circuit) = circuit_of(&free, &codes, (&order, codes.bits), words)? else {
+        return Ok(None);
+    };
+    Ok(Some(Draft {
+        free,
+        codes,
+        order,
+        circuit,
+    }))
 }
 
-/// A circuit as plain lists.
-fn proposal_of(steps: &Steps, circuit: &Circuit) -> Found<Proposal> {
-    let alloc = steps.alloc;
-    let many = (steps.outputs as usize).min(circuit.literals.len());
-    let (outputs, latches) = circuit.literals.split_at(many);
-    let mut gates = Vec::new(alloc);
-    for signal in circuit.net.given..circuit.net.len() {
-        gates.push(circuit.net.gate(signal))?;
+impl Draft {
+    /// Tries other codes and orders of outputs, as dice tell, as long as that takes little.
+    fn search(&mut self) -> Found<()> {
+        let mut dice = Dice::new();
+        for _ in 0..TURNS {
+            let mut codes = self.codes.copied()?;
+            let mut order = self.order.clone()?;
+            if dice.below(4) == 0 {
+                dice.exchange(&mut order);
+            } else {
+                let state = dice.below(self.free.states.saturating_sub(1));
+                let code = dice.below(power(codes.bits).saturating_sub(1));
+                codes.exchange(state.saturating_add(1), code.saturating_add(1));
+            }
+            let mut words = WORDS_OF_TURN;
+            let bits = (&order[..], codes.bits);
+            if let Some(mut circuit) = circuit_of(&self.free, &codes, bits, &mut words)? {
+                circuit.improve(0, &mut words)?;
+                if words > 0 && circuit.size() <= self.circuit.size() {
+                    self.circuit = circuit;
+                    self.codes = codes;
+                    self.order = order;
+                }
+            }
+            if words == 0 {
+                break;
+            }
+        }
+        Ok(())
     }
-    Ok(Proposal {
-        latches: Vec::from_slice(alloc, latches)?,
-        outputs: Vec::from_slice(alloc, outputs)?,
-        gates,
-    })
 }

@@ -1,0 +1,104 @@
+//! Circuits of large machines: the latches hold the number of the state, and each literal is a tree of choices by the bits of inputs and
+//! latches, of which equal parts stand once.
+
+use crate::machine::Machine;
+use crate::net::Gate;
+use crate::numbers::{Found, NONE, at, count, has_bit, width};
+use crate::proposal::Proposal;
+use crate::steps::Steps;
+use std::alloc::Global;
+use std::collections::BTreeMap;
+
+/// How many rows a machine may have.
+const MOST_ROWS: u32 = 1 << 20;
+
+/// Gates, and which variables they are.
+#[derive(Drop)]
+struct Draft {
+    alloc: Global,
+    variables: u32,
+    gates: Vec<Gate>,
+    known: BTreeMap<(u32, u32), u32>,
+}
+
+impl Draft {
+    /// The conjunction of two literals.
+    fn and(&mut self, x: u32, y: u32) -> Found<u32> {
+        let (left, right) = (x.max(y), x.min(y));
+        if right == 0 || left == right ^ 1 {
+            return Ok(0);
+        }
+        if right == 1 || left == right {
+            return Ok(left);
+        }
+        let known = self.known.get(&(left, right)).copied();
+        if let Some(known) = known {
+            return Ok(known);
+        }
+        self.gates.push(Gate { left, right })?;
+        let variable = self.variables.saturating_add(count(self.gates.len()));
+        let literal = variable.saturating_mul(2);
+        self.known.insert((left, right), literal)?;
+        Ok(literal)
+    }
+
+    /// One of two literals, or `NONE` where either serves, by the bit of a variable.
+    fn choice(&mut self, variable: u32, low: u32, high: u32) -> Found<u32> {
+        if low == NONE || low == high {
+            return Ok(high);
+        }
+        if high == NONE {
+            return Ok(low);
+        }
+        let literal = variable.saturating_mul(2);
+        let one = self.and(literal, high)?;
+        let two = self.and(literal | 1, low)?;
+        Ok(self.and(one ^ 1, two ^ 1)? ^ 1)
+    }
+
+    /// The literals that are bit `n` of these numbers, row after row of the machine.
+    fn bit(&mut self, numbers: &[u32], n: u32) -> Found<u32> {
+        let mut row = Vec::new(self.alloc);
+        for number in numbers {
+            row.push(has_bit(*number, n) as u32)?;
+        }
+        for variable in 1..self.variables.saturating_add(1) {
+            let mut next = Vec::new(self.alloc);
+            for pair in row.chunks(2) {
+                next.push(self.choice(variable, at(pair, 0), at(pair, 1))?)?;
+            }
+            row = next;
+        }
+        Ok(at(&row, 0))
+    }
+
+    /// The literals of the first bits of numbers.
+    fn bits(&mut self, numbers: &[u32], many: u32) -> Found<Vec<u32>> {
+        let mut literals = Vec::new(self.alloc);
+        for n in 0..many {
+            literals.push(self.bit(numbers, n)?)?;
+        }
+        Ok(literals)
+    }
+}
+
+/// The circuit of a machine, whose outputs depend on no input if they don't in the machine; none if that is too large.
+pub fn tree_of(machine: &Machine, steps: &Steps) -> Found<Option<Proposal>> {
+    if count(machine.nexts.len()) > MOST_ROWS {
+        return Ok(None);
+    }
+    let bits = width(machine.states);
+    let mut draft = Draft {
+        alloc: steps.alloc,
+        variables: machine.inputs.saturating_add(bits),
+        gates: Vec::new(steps.alloc),
+        known: BTreeMap::new(steps.alloc),
+    };
+    let outputs = draft.bits(&machine.outputs, steps.outputs)?;
+    let latches = draft.bits(&machine.nexts, bits)?;
+    Ok(Some(Proposal {
+        latches,
+        outputs,
+        gates: draft.gates,
+    }))
+}
