@@ -1,7 +1,7 @@
 -- A text that is read spells what is read, and what a text spells is read.
 use Rattle.pg_aiger_reader.proofs.Common.{◌≡◌, ◌⊎◌, ℕ, ◌+◌, ◌≤◌, List, [], ◌++◌, take, drop, map}
 use Rattle.pg_aiger_reader.proofs.Common.{length, Option, Some, None, refl, sym, ap, subst, ◌∙◌, inl, inr, ◌>>=◌, bytes_eq, codes}
-use Rattle.pg_aiger_reader.proofs.Common.{cases_Bool, some, some_is, none_is_some, take-append-drop, bytes_eq-Decides}
+use Rattle.pg_aiger_reader.proofs.Common.{cases_Bool, true, some, some_is, none_is_some, take-append-drop, bytes_eq-Decides}
 use Rattle.pg_aiger_reader.proofs.Common.{header_at, sections_at, many_at, input_at, latch_at, gate_at, latches_at, symbols_at, text_at, length-map}
 use Rattle.pg_aiger_reader.proofs.Common.{Err, GivesAs, arith, fault_at, first_named, reset_fault, text_fault}
 use Rattle.pg_aiger_reader.proofs.Many.{many_found, many_only}
@@ -28,24 +28,36 @@ use Rattle.pg_aiger_reader.specs.Mirrors.Sections.{Parts, parts_of}
 use Rattle.pg_aiger_reader.specs.Mirrors.Symbols.{count_in}
 use Rattle.pg_aiger_reader.specs.Mirrors.Reading.{behind_verdict, circuit_of, parts_in}
 
--- ---- a first line `REALIZABLE`
+-- ---- a first line `REALIZABLE` or `UNREALIZABLE`
 
-verdict_found : (bytes : List ℕ) → (bytes ≡ behind_verdict bytes) ⊎ (bytes ≡ codes "REALIZABLE\n" ++ behind_verdict bytes)
+-- a front that is there
+front_found : (n : ℕ) (line bytes : List ℕ) → bytes_eq (take n bytes) line ≡ true → bytes ≡ line ++ drop n bytes
+front_found n line bytes h =
+    sym (take-append-drop n bytes) ∙ ap (λ (t : List ℕ). t ++ drop n bytes) ((bytes_eq-Decides (take n bytes) line).0 h)
+
+verdict_found : (bytes : List ℕ) → HasBody bytes (behind_verdict bytes)
 verdict_found bytes =
     elim (cases_Bool (bytes_eq (take 11 bytes) (codes "REALIZABLE\n"))) [
       | inl h ↦
-          let front : take 11 bytes ≡ codes "REALIZABLE\n" = (bytes_eq-Decides (take 11 bytes) (codes "REALIZABLE\n")).0 h in
-          let whole : bytes ≡ codes "REALIZABLE\n" ++ drop 11 bytes =
-          sym (take-append-drop 11 bytes) ∙ ap (λ (t : List ℕ). t ++ drop 11 bytes) front in
-          inr (rw h whole)
-      | inr h ↦ inl (rw h refl)
+          let whole = front_found 11 (codes "REALIZABLE\n") bytes h in
+          inr (inl (rw h whole))
+      | inr h ↦ elim (cases_Bool (bytes_eq (take 13 bytes) (codes "UNREALIZABLE\n"))) [
+        | inl k ↦
+            let whole = front_found 13 (codes "UNREALIZABLE\n") bytes k in
+            inr (inr (rw (h, k) whole))
+        | inr k ↦ inl (rw (h, k) refl)
+      ]
     ]
 
-verdict_only : (form : Form) (text bytes : List ℕ) → (bytes ≡ form_text form ++ text) ⊎ (bytes ≡ codes "REALIZABLE\n" ++ (form_text form ++ text))
-    → behind_verdict bytes ≡ form_text form ++ text
+verdict_only : (form : Form) (text bytes : List ℕ) → HasBody bytes (form_text form ++ text) → behind_verdict bytes ≡ form_text form ++ text
 verdict_only Ascii text bytes (inl e) = rw e refl
 verdict_only Binary text bytes (inl e) = rw e refl
-verdict_only form text bytes (inr e) = rw e refl
+verdict_only form text bytes (inr (inl e)) = rw e refl
+verdict_only form text bytes (inr (inr e)) = rw e refl
+
+-- a body that is the same
+same_body : (bytes body other : List ℕ) → body ≡ other → HasBody bytes body → HasBody bytes other
+same_body bytes body other same whole = rw (sym same) whole
 
 -- ---- sections
 
@@ -204,8 +216,7 @@ same_latches c latches e = ap (λ ls. circuit_of c.greatest (parts_of c.inputs [
 
 behind_is : (form : Form) (text body bytes : List ℕ) → HasBody bytes body → body ≡ form_text form ++ text → behind_verdict bytes ≡ body
 behind_is form text body bytes whole begins =
-    verdict_only form text bytes (elim whole [ inl e ↦ inl (e ∙ begins) | inr e ↦ inr (e ∙ ap (λ (b : List ℕ). codes "REALIZABLE\n" ++ b) begins) ])
-    ∙ sym begins
+    verdict_only form text bytes (same_body bytes body (form_text form ++ text) begins whole) ∙ sym begins
 
 pub text_only : (bytes : List ℕ) (c : Circuit) (symbols : List Symbol) → IsRead bytes c symbols → text_at bytes ≡ Some (c, symbols)
 unfolding text_at head_of parts_in_text
@@ -241,10 +252,7 @@ header_wrong bytes fault is = record {
   o = is.o;
   a = is.a;
   counts = is.counts;
-  whole = elim (verdict_found bytes) [
-    | inl e ↦ inl (e ∙ is.begins)
-    | inr e ↦ inr (e ∙ ap (λ (b : List ℕ). codes "REALIZABLE\n" ++ b) is.begins)
-  ];
+  whole = same_body bytes (behind_verdict bytes) (form_text is.form ++ is.text) is.begins (verdict_found bytes);
   line = is.line;
   few = is.few;
   wrong = is.wrong;

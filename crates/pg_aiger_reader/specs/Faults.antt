@@ -24,7 +24,7 @@ IsHeaderFault m o counts (LeftOut section) = IsLeftOut section counts
 IsHeaderFault m o counts TooLarge = AllByRecursion (λ n. n ≡ 0) counts × ((16777216 < m) ⊎ (16777216 < o))
 IsHeaderFault m o counts _ = ⊥
 
--- The bytes begin with a header, perhaps behind a line `REALIZABLE`, which is refused for this.
+-- The bytes begin with a header, perhaps behind a line `REALIZABLE` or `UNREALIZABLE`, which is refused for this.
 pub record HasHeaderFault (bytes : List ℕ) (fault : ReaderFault) : Type 0 where
   pub form : Form
   pub text : List ℕ

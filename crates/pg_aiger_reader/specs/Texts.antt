@@ -120,11 +120,11 @@ pub record IsText (form : Form) (bytes : List ℕ) (circuit : Circuit) (symbols 
   pub names : AreItems (IsSymbol circuit) 0 behind_gates symbols comment
   pub ends : IsComment comment
 
--- a text, perhaps behind a line `REALIZABLE`
+-- a text, perhaps behind the first line of an answer
 abbrev pub HasBody : List ℕ → List ℕ → Type 0
-HasBody bytes body = (bytes ≡ body) ⊎ (bytes ≡ codes "REALIZABLE\n" ++ body)
+HasBody bytes body = (bytes ≡ body) ⊎ ((bytes ≡ codes "REALIZABLE\n" ++ body) ⊎ (bytes ≡ codes "UNREALIZABLE\n" ++ body))
 
--- The bytes spell them, perhaps behind a line `REALIZABLE`.
+-- The bytes spell them, perhaps behind a line `REALIZABLE` or `UNREALIZABLE`.
 pub record IsRead (bytes : List ℕ) (circuit : Circuit) (symbols : List Symbol) : Type 0 where
   pub form : Form
   pub body : List ℕ

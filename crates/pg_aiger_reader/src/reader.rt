@@ -27,13 +27,16 @@ pub struct Parts<'a> {
     pub symbols: Vec<Symbol<'a>>,
 }
 
-/// What stands behind a first line `REALIZABLE`, if there is one.
+/// What stands behind a first line `REALIZABLE` or `UNREALIZABLE`, if there is one.
 fn behind_verdict(bytes: &[u8]) -> &[u8]
     ensures { result.now ≡ behind_verdict bytes.now }
 {
     match bytes.strip_prefix(b"REALIZABLE\n") {
         Some(body) => body,
-        None => bytes,
+        None => match bytes.strip_prefix(b"UNREALIZABLE\n") {
+            Some(body) => body,
+            None => bytes,
+        },
     }
 }
 
@@ -75,7 +78,7 @@ fn read<'a>(alloc: Global, bytes: &'a [u8]) -> Result<Parts<'a>, ReaderFault>
 }
 
 /// Reads a circuit in the AIGER format, in ASCII (`aag`) or binary (`aig`), of 2007 or version 1.9. It skips a first
-/// line `REALIZABLE`. The numbers of a line are separated by single spaces, and each line ends with a single newline.
+/// line `REALIZABLE` or `UNREALIZABLE`. The numbers of a line are separated by single spaces, and each line ends with a single newline.
 /// There are at most 16,777,216 variables, and at most 16,777,216 outputs.
 ///
 /// It doesn't check whether each variable that is used is defined, only once and not through itself; the code that

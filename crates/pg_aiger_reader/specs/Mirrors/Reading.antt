@@ -17,7 +17,10 @@ use Rattle.pg_aiger_reader.specs.Mirrors.Sections.{Parts, sections_at}
 use Rattle.pg_aiger_reader.specs.Mirrors.Symbols.{symbols_at}
 
 abbrev pub behind_verdict : List ℕ → List ℕ
-behind_verdict bytes = if bytes_eq (take 11 bytes) (codes "REALIZABLE\n") then drop 11 bytes else bytes
+behind_verdict bytes =
+    if bytes_eq (take 11 bytes) (codes "REALIZABLE\n") then drop 11 bytes
+    else if bytes_eq (take 13 bytes) (codes "UNREALIZABLE\n") then drop 13 bytes
+    else bytes
 
 unfoldable pub latches_at : List LatchLine → Option (List Latch)
 latches_at [] = Some []
