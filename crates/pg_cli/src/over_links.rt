@@ -7,7 +7,7 @@ ghost use Rattle.pg_cli.specs.Linked.{IsLeastOverTold};
 ghost use Rattle.pg_cli.specs.Mirrors.Finding.{IsFoundIf};
 
 use pg_arena::{Game, dual};
-use pg_cli_command::{Maps, Proposal, Solver, Untranslated};
+use pg_cli_command::{Proposal, Solver, Untranslated};
 use pg_cli_in_one_piece::InOnePiece;
 use pg_coord::{Link, solve, solve_within};
 use pg_coord_partition::fits_worker;
@@ -15,7 +15,7 @@ use pg_hoa::Automaton;
 use pg_ltl::Formula;
 use pg_map::MeasureMap;
 use pg_measure::Bounds;
-use pg_solver::Found;
+use pg_solver::{Found, Maps};
 use pg_worker::Cut;
 use std::alloc::{AllocError, Global};
 

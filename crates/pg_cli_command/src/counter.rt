@@ -1,9 +1,8 @@
 //! The command `synth --counter`.
 
-ghost use Rattle.std.specs.Prelude.{◌≡◌, ◌≤◌, true, Some, length, IfOk, IfErr, IfSome, OnOk};
+ghost use Rattle.std.specs.Prelude.{◌≡◌, true, Some, IfOk, IfErr, IfSome, OnOk};
 ghost use Rattle.std.specs.Io.KnownBytes.{Appends};
 ghost use Rattle.pg_hoa_automaton.specs.Automata.{IsAutomaton};
-ghost use Rattle.pg_synth.specs.Letters.{outputs};
 ghost use Rattle.pg_verify_environment.specs.Counterparts.{IsCounterpart};
 ghost use Rattle.pg_cli_command.specs.Small.{IsShaped};
 ghost use Rattle.pg_cli_command.specs.Counter.{IsSynthesisedCounter, RefusesCounter};
@@ -19,6 +18,7 @@ use crate::verify::verdict_on;
 use pg_aiger::{AigerFault, Circuit, write_circuit};
 use pg_aiger_netlist::{Netlist, NetlistFault};
 use pg_hoa::Automaton;
+use pg_synth::count_controlled;
 use pg_verify::VerifyFault;
 use pg_verify_environment::{Outcome, counterpart, outcome_of};
 use std::alloc::Global;
@@ -63,21 +63,6 @@ impl Answer for Countered {
         } = self;
         write_countered(is_realized, &circuit, &automaton, writer).ok()
     }
-}
-
-/// How many propositions the controller sets.
-fn count_controlled(automaton: &Automaton) -> u32
-    requires { IsAutomaton automaton.now }
-    ensures value { result ≡ outputs automaton.now.controllable }
-    ensures within { result ≤ length automaton.now.propositions }
-{
-    let mut count = 0;
-    for a in 0..automaton.propositions() {
-        if automaton.controllable(a) {
-            count += 1;
-        }
-    }
-    count
 }
 
 /// The circuit that is proposed, if it has the propositions of the automaton.

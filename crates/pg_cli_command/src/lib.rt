@@ -33,4 +33,4 @@ pub use pg_cli_words::Command;
 pub use program::{
     answer, check_texts, means_texts, refute_texts, replay_texts, run_by, verify_texts,
 };
-pub use solver::{Maps, Proposal, Solver, Untranslated};
+pub use solver::{Proposal, Solver, Untranslated};

@@ -10,14 +10,8 @@ use pg_arena::Game;
 use pg_hoa::Automaton;
 use pg_ltl::Formula;
 use pg_map::Measures;
+use pg_solver::Maps;
 use std::alloc::{AllocError, Global};
-
-/// A map of a game, and one of its dual.
-#[derive(Drop)]
-pub struct Maps<M> {
-    pub of_game: M,
-    pub of_dual: M,
-}
 
 /// A proposed circuit: the next literals of the latches, the literals of the outputs, and the gates. Its variables from 1 on are the
 /// inputs, then the latches, then the gates, each over literals of smaller variables, the greater one first. A literal is twice its

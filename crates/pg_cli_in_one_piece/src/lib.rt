@@ -3,11 +3,11 @@
 
 use pg_aiger::Gate;
 use pg_arena::Game;
-use pg_cli_command::{Maps, Proposal, Solver, Untranslated};
+use pg_cli_command::{Proposal, Solver, Untranslated};
 use pg_hoa::Automaton;
 use pg_ltl::Formula;
 use pg_search::{propose, propose_measure};
-use pg_solver::Found;
+use pg_solver::{Found, Maps};
 use pg_translate::TranslateFault;
 use std::alloc::{AllocError, Global};
 
@@ -82,11 +82,7 @@ impl Solver for InOnePiece {
 
     fn solve(&mut self, alloc: Global, game: &Game) -> Result<Maps<Found>, AllocError> {
         let proposals = propose(alloc, game)?;
-        let measures = pg_solver::solve(alloc, game, proposals)?;
-        Ok(Maps {
-            of_game: measures.of_game,
-            of_dual: measures.of_dual,
-        })
+        pg_solver::solve(alloc, game, proposals)
     }
 
     fn propose(&self, alloc: Global, automaton: &Automaton) -> Result<Vec<Proposal>, AllocError> {

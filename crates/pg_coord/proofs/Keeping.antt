@@ -87,21 +87,6 @@ turn_sent old new f highest s next held has_refused bytes bytes' reply k highest
       refused = refused ∙ hears;
     }))
 
--- the turn of bytes is that of the frame that they spell
-pub turn_of_frame : (f : Frame) (bytes : List ℕ) (s : ℕ) (held held' : Option SessionValue) (halts : Bool) (reply : List ℕ) → Spells f bytes
-    → DoesTurn s held bytes held' halts reply → IsUpTo s f × Turn held f held' reply
-turn_of_frame f bytes s held held' halts reply spells does =
-    let same : does.frame ≡ f = one_frame does.frame f bytes does.spells spells in
-    (subst (IsUpTo s) same does.version, subst (λ (g : Frame). Turn held g held' reply) same does.turn)
-
--- and so is a refusal of them
-pub refusal_of_frame : (f : Frame) (bytes : List ℕ) (s : ℕ) (held : Option SessionValue) (why : WorkerFault) → Spells f bytes
-    → (why ≡ OutOfMemory) ⊎ RefusesBytes s held bytes why → (why ≡ OutOfMemory) ⊎ Refuses s held f why
-refusal_of_frame f bytes s held why spells (inl e) = inl e
-refusal_of_frame f bytes s held why spells (inr (inl none)) = absurd (none.2.none f spells)
-refusal_of_frame f bytes s held why spells (inr (inr refuses)) =
-    inr (subst (λ (g : Frame). Refuses s held g why) (one_frame refuses.0 f bytes refuses.1 spells) refuses.2)
-
 -- a refusal that is reported is a frame that is sent
 pub refusal_sent : (old new : MemoryValue) (f : Frame) (s : ℕ) (held : Option SessionValue) (waits : List ℕ) (why : WorkerFault)
     → old.has_refused ≡ false → s ≡ old.highest → held ≡ old.held → waits ≡ still_waiting f old.waiting

@@ -3,8 +3,10 @@
 ghost use Rattle.std.specs.Prelude.{◌≡◌, ◌≢◌, ◌↔◌, ◌⊎◌, ◌≤◌, ◌++◌, ℕ, List, [], None, length, drop, IsOk, OnOk, OnErr, IfErr};
 ghost use Rattle.pg_map.specs.Maps.{MapValue};
 ghost use Rattle.pg_wire.specs.declared.frame.Frame.{Frame};
+ghost use Rattle.pg_wire.specs.Well.{IsWell};
 ghost use Rattle.pg_wire.specs.Bytes.{Spells};
 ghost use Rattle.pg_coord_partition.specs.Frames.{IsAtLeast, measures_in};
+ghost use Rattle.pg_worker.specs.Turns.{HasRows};
 ghost use Rattle.pg_worker.specs.Above.{AreFrames};
 ghost use Rattle.pg_coord_partition.specs.Links.{IsUnderAfter, CountsFailure};
 ghost use Rattle.pg_coord.specs.Memory.{started_link, still_waiting, Reports, Sends, SendsNoFrame, Empties, BreaksOff, IsAboveLink};
@@ -127,9 +129,10 @@ impl MemoryLink {
         Ok(())
     }
 
-    /// Lets the session do the turn of the frame that the bytes spell, unless it has refused one.
-    fn take(&mut self, frame: &Frame, bytes: &[u8]) -> Result<(), LinkFault>
-        requires { Spells frame.now bytes.now }
+    /// Lets the session do the turn of a frame that has no rows, unless it has refused one.
+    fn take(&mut self, frame: &Frame) -> Result<(), LinkFault>
+        requires well { IsWell frame.now }
+        requires no_rows { ¬ (HasRows frame.now) }
         ensures ok { OnOk result (Sends frame.now self.old self.new) }
         ensures memory { IfErr result (λ e. (e ≡ LinkFault.OutOfMemory) × Empties frame.now self.old self.new) }
         ensures highest { self.new.highest ≡ self.old.highest }
@@ -139,7 +142,7 @@ impl MemoryLink {
         if self.has_refused {
             return Ok(());
         }
-        match self.session.frame_from(bytes, &mut self.waiting) {
+        match self.session.frame_without_rows(frame, &mut self.waiting) {
             Ok(_) => Ok(()),
             Err(fault) => self.refuse(fault),
         }
@@ -147,13 +150,15 @@ impl MemoryLink {
 }
 
 impl MemoryLink {
-    ghost use Rattle.std.specs.Prelude.{IfOk, IfSome, MatchBool};
+    ghost use Rattle.std.specs.Prelude.{IfOk, IfSome, IsFalse, MatchBool};
+    ghost use Rattle.pg_worker.specs.Turns.{SpellsRows};
     ghost use Rattle.pg_worker.specs.Mirrors.Sessions.{IsSmall};
 
     /// Lets the session do the turn of the frame of vertices or of values that the bytes spell, unless it has refused
     /// one. False where they spell no such frame, and then nothing has changed.
     fn take_rows(&mut self, bytes: &[u8]) -> Result<bool, LinkFault>
         ensures small { IfSome self.old.held IsSmall }
+        ensures rows { IfOk result (λ taken. IsFalse taken → ¬ (SpellsRows bytes.now)) }
         ensures ok { IfOk result (λ taken. MatchBool taken
             ((f : Frame) × Spells f bytes.now × Sends f self.old self.new) (self.new ≡ self.old)) }
         ensures memory { IfErr result (λ e. (e ≡ LinkFault.OutOfMemory) × BreaksOff bytes.now self.old self.new) }
@@ -201,7 +206,7 @@ impl Link for MemoryLink {
             return Ok(());
         }
         match decode(self.alloc, frame) {
-            Ok(told) => self.take(&told, frame),
+            Ok(told) => self.take(&told),
             Err(WireFault::OutOfMemory) => Err(LinkFault::OutOfMemory),
             Err(_) if self.has_refused => Ok(()),
             Err(fault) => self.refuse(WorkerFault::Wire(fault)),

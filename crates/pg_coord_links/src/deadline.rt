@@ -6,16 +6,16 @@ use std::time::{Clock, Duration, Instant};
 
 /// A span of time: it ends so long after a point in time, and no later than at another one, if there is one.
 #[derive(Clone, Copy)]
-pub struct Span {
+pub struct TimeSpan {
     since: Instant,
     limit: Duration,
     end: Option<Instant>,
 }
 
-impl Span {
+impl TimeSpan {
     /// So many seconds from now on, but no longer than to the end.
-    pub fn start<C: Clock>(clock: &C, seconds: u64, end: Option<Instant>) -> io::Result<Span> {
-        Ok(Span {
+    pub fn start<C: Clock>(clock: &C, seconds: u64, end: Option<Instant>) -> io::Result<TimeSpan> {
+        Ok(TimeSpan {
             since: Instant::now(clock)?,
             limit: Duration::from_secs(seconds),
             end,
@@ -42,7 +42,7 @@ impl Span {
 pub struct DeadlineStream<C, S> {
     clock: C,
     stream: S,
-    span: Span,
+    span: TimeSpan,
 }
 
 impl<C: Clock, S> DeadlineStream<C, S> {
@@ -53,7 +53,7 @@ impl<C: Clock, S> DeadlineStream<C, S> {
         S: Drop,
     {
         Ok(DeadlineStream {
-            span: Span::start(&clock, 0, end)?,
+            span: TimeSpan::start(&clock, 0, end)?,
             clock,
             stream,
         })
@@ -61,7 +61,7 @@ impl<C: Clock, S> DeadlineStream<C, S> {
 
     /// Gives the reads and the writes from now on so many seconds.
     pub fn start(&mut self, seconds: u64) -> io::Result<()> {
-        self.span = Span::start(&self.clock, seconds, self.span.end)?;
+        self.span = TimeSpan::start(&self.clock, seconds, self.span.end)?;
         Ok(())
     }
 }

@@ -1,6 +1,6 @@
 //! Starts programs that connect to this one.
 
-use crate::deadline::Span;
+use crate::deadline::TimeSpan;
 use crate::owner::is_of_program;
 use std::alloc::Global;
 use std::fs::{self, Files};
@@ -84,7 +84,7 @@ fn is_started_as_its_owner<R: Reach>(rt: &R, path: &str) -> bool {
 pub struct Starting<R: Reach> {
     pub program: Child<R::Started>,
     listener: R::Listener,
-    time: Span,
+    time: TimeSpan,
 }
 
 impl<R: Reach> Starting<R> {
@@ -100,7 +100,7 @@ impl<R: Reach> Starting<R> {
         if is_started_as_its_owner(rt, path) {
             return Err(io::Error::from(ErrorKind::PermissionDenied));
         }
-        let time = Span::start(rt, CONNECT, end)?;
+        let time = TimeSpan::start(rt, CONNECT, end)?;
         time.left(rt)?;
         let port = listener.local_addr()?.port();
         Ok(Starting {

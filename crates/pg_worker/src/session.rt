@@ -5,13 +5,13 @@ ghost use Rattle.pg_wire.specs.Spelling.{body, longest};
 ghost use Rattle.pg_wire.specs.Well.{IsWell};
 ghost use Rattle.pg_wire.specs.declared.fault.WireFault.TheVariants.{TooLong};
 ghost use Rattle.pg_wire.specs.declared.frame.Frame.TheVariants.{Halt};
-ghost use Rattle.pg_worker.specs.Turns.{Turn, IsUpTo, Refuses, DoesTurn, SpellsRows, RefusesBytes};
+ghost use Rattle.pg_worker.specs.Turns.{Turn, IsUpTo, Refuses, DoesTurn, HasRows, SpellsRows, RefusesBytes};
 
 use crate::WorkerFault;
 use crate::fault::own;
 use crate::session_state::{SessionState, replace_state};
-use crate::turn::{turn_of, turn_of_rows};
-use pg_wire::{Frame, encode};
+use crate::turn::{turn, turn_of_rows};
+use pg_wire::{Frame, decode, encode};
 use std::alloc::Global;
 
 /// A worker that gets its orders as frames, and answers with frames. Before a set-up, after Halt and after a refusal it
@@ -93,8 +93,38 @@ impl Session {
         ensures same { OnErr result (out.new.items ≡ out.old.items) }
         ensures empty { OnErr result (self.new.held ≡ None) }
     {
+        if self.rows_from(bytes)? {
+            return Ok(false);
+        }
+        match decode(self.alloc, bytes) {
+            Ok(frame) => self.frame_without_rows(&frame, out),
+            Err(fault) => {
+                replace_state(&mut self.held, None);
+                Err(own(fault))
+            }
+        }
+    }
+
+    /// As `frame`, for a frame that has no rows, which are vertices or values.
+    pub fn frame_without_rows(
+        &mut self,
+        frame: &Frame,
+        out: &mut Vec<u8>,
+    ) -> Result<bool, WorkerFault>
+        requires well { IsWell frame.now }
+        requires no_rows { ¬ (HasRows frame.now) }
+        ensures highest { self.new.highest ≡ self.old.highest }
+        ensures version { OnOk result (IsUpTo self.old.highest frame.now) }
+        ensures turn { OnOk result ((reply : List ℕ) × Turn self.old.held frame.now self.new.held reply
+            × (out.new.items ≡ out.old.items ++ reply)) }
+        ensures halt { IfOk result (λ halts. IsTrue halts ↔ (frame.now ≡ Halt)) }
+        ensures refused { IfErr result (λ e. (e ≡ WorkerFault.OutOfMemory)
+            ⊎ Refuses self.old.highest self.old.held frame.now e) }
+        ensures same { OnErr result (out.new.items ≡ out.old.items) }
+        ensures empty { OnErr result (self.new.held ≡ None) }
+    {
         let before = out.len();
-        match turn_of(self.alloc, self.highest, &mut self.held, bytes, out) {
+        match turn(self.alloc, self.highest, &mut self.held, frame, out) {
             Ok(halts) => Ok(halts),
             Err(fault) => {
                 replace_state(&mut self.held, None);

@@ -9,14 +9,13 @@ ghost use Rattle.pg_worker.specs.Turns.{Turn, IsUpTo, Refuses, TakesValues, Refu
 ghost use Rattle.pg_wire.specs.Left.{IsLeft};
 ghost use Rattle.pg_wire.specs.Measured.{Measured};
 
-use crate::fault::own;
 use crate::joins::join_read;
 use crate::lines::add_read_lines;
 use crate::reply::{put_lifted, put_report};
 use crate::session_state::{SessionState, replace_state};
 use crate::{Worker, WorkerFault};
 use pg_coord_partition::fits_worker;
-use pg_wire::{Frame, Setup, ValueKind, ValuesReader, VerticesReader, WireFault, decode};
+use pg_wire::{Frame, Setup, ValueKind, ValuesReader, VerticesReader, WireFault};
 use std::alloc::Global;
 
 /// Answers a set-up, and tells the kind of frames in which values go under its version.
@@ -99,7 +98,7 @@ fn lift(held: &mut SessionState, budget: u32, out: &mut Vec<u8>) -> Result<(), W
 
 /// Does the turn of a frame that has no rows on what is held, and tells whether it is Halt; the reply is appended. After a fault
 /// some of it may stand in `out`, and nothing is said of what is held.
-fn turn(
+pub fn turn(
     alloc: Global,
     highest: u8,
     held: &mut Option<SessionState>,
@@ -167,28 +166,4 @@ pub fn turn_of_rows(
     };
     add_read_lines(alloc, held, lines)?;
     Ok(true)
-}
-
-/// Does the turn of the frame that the bytes spell on what is held, and tells whether that is Halt; the reply is appended.
-/// Measures and vertices are read from the bytes, one after the other. After a fault some of the reply may stand in `out`, and
-/// nothing is said of what is held.
-pub fn turn_of(
-    alloc: Global,
-    highest: u8,
-    held: &mut Option<SessionState>,
-    bytes: &[u8],
-    out: &mut Vec<u8>,
-) -> Result<bool, WorkerFault>
-    ensures turn { IfOk result (λ halts. (reply : List ℕ) × DoesTurn highest held.old bytes.now held.new halts reply
-        × (out.new.items ≡ out.old.items ++ reply)) }
-    ensures refused { IfErr result (λ e. (e ≡ WorkerFault.OutOfMemory) ⊎ RefusesBytes highest held.old bytes.now e) }
-    ensures kept { Extends out.old.items out.new.items }
-{
-    if turn_of_rows(alloc, held, bytes)? {
-        return Ok(false);
-    }
-    match decode(alloc, bytes) {
-        Ok(frame) => turn(alloc, highest, held, &frame, out),
-        Err(fault) => Err(own(fault)),
-    }
 }
