@@ -71,6 +71,14 @@ impl Levels {
         Ok(())
     }
 
+    /// What is asked for at a level.
+    pub fn asked(&self, level: u32) -> &[Asked] {
+        match self.lists.get(level as usize) {
+            Some(list) => list,
+            None => &[],
+        }
+    }
+
     /// Takes what is asked for at a level.
     pub fn take(&mut self, alloc: Global, level: u32) -> Vec<Asked> {
         if (level as usize) < self.lists.len() {

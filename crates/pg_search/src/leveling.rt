@@ -7,13 +7,17 @@
 
 use crate::asked::{Asked, Levels};
 use crate::board::Board;
+use crate::shunning::FEW;
 use pg_search_rows::{NONE, Side, ZEROS, at, count, is_marked, item, put};
 use std::alloc::{AllocError, Global};
 use std::mem;
 
+/// Of a part of the open vertices the winner chooses anew, where these come to a level.
+const PART: usize = 16;
+
 /// How a vertex without a value stands in a round, and that it has one.
 #[derive(Clone, Copy, PartialEq, Eq)]
-enum Standing {
+pub(crate) enum Standing {
     /// Its row is known, and so will be its value.
     Known,
     /// The opponent comes from it to a vertex of the level's priority or to a known one.
@@ -27,17 +31,17 @@ enum Standing {
     Done,
 }
 
-/// What is known of a vertex at the level at which it was seen last.
+/// What is known of a vertex in the turn in which it was taken in last.
 #[derive(Clone, Copy)]
-struct Member {
-    level: u32,
-    class: u32,
+pub(crate) struct Member {
+    turn: u32,
+    pub class: u32,
     /// How many successors of the class have no value.
     left: u32,
     /// Of how many a loose one has to be known that they rise, so that it does; and by which one of the opponent's rises.
     need: u32,
     to: u32,
-    standing: Standing,
+    pub standing: Standing,
     is_mine: bool,
     /// Whether it has the level's priority.
     is_head: bool,
@@ -45,7 +49,7 @@ struct Member {
 
 impl Member {
     const NOWHERE: Member = Member {
-        level: NONE,
+        turn: NONE,
         class: NONE,
         left: 0,
         need: 0,
@@ -57,16 +61,20 @@ impl Member {
 }
 
 #[derive(Drop)]
-struct Leveling<'m> {
+pub(crate) struct Leveling<'m> {
     is_settled: &'m [bool],
-    board: &'m mut Board,
+    pub board: &'m mut Board,
     members: Vec<Member>,
     /// For each class the row of the greatest value that was given in it.
     lasts: Vec<u32>,
-    level: u32,
+    pub level: u32,
+    /// How often a level was begun.
+    turn: u32,
+    /// What part of the vertices may be of the levels that the winner chooses to stay without.
+    pub part: usize,
     value: u32,
     /// The vertices of the level, known ones too; and how many have no value.
-    reached: Vec<u32>,
+    pub reached: Vec<u32>,
     many: u32,
     /// Known vertices whose component is greater than the value, the greatest first.
     known: Vec<Asked>,
@@ -86,7 +94,7 @@ impl Leveling<'_> {
     #[inline(always)]
     fn left(&self, v: u32, class: u32) -> Option<Member> {
         let member = self.member(v);
-        let is_left = member.level == self.level && member.class == class;
+        let is_left = member.turn == self.turn && member.class == class;
         if is_left && member.standing != Standing::Done {
             Some(member)
         } else {
@@ -95,13 +103,20 @@ impl Leveling<'_> {
     }
 
     #[inline(always)]
-    fn member(&self, v: u32) -> Member {
+    pub fn member(&self, v: u32) -> Member {
         item(&self.members, v, Member::NOWHERE)
     }
 
+    /// Whether a vertex was taken in.
+    #[inline(always)]
+    pub fn is_in(&self, v: u32) -> bool {
+        self.member(v).turn == self.turn
+    }
+
     /// Begins a level with what is asked for: vertices that are to have rows, and known ones.
-    fn begin(&mut self, side: &Side, level: u32, asked: &[Asked]) -> Result<(), AllocError> {
+    pub fn begin(&mut self, side: &Side, level: u32, asked: &[Asked]) -> Result<(), AllocError> {
         self.level = level;
+        self.turn = self.turn.wrapping_add(1);
         self.value = 0;
         self.has_changed = false;
         self.reached.clear();
@@ -125,7 +140,7 @@ impl Leveling<'_> {
     }
 
     /// Takes a vertex in.
-    fn reach(
+    pub fn reach(
         &mut self,
         side: &Side,
         v: u32,
@@ -134,7 +149,7 @@ impl Leveling<'_> {
     ) -> Result<(), AllocError> {
         let state = side.state(v);
         let member = Member {
-            level: self.level,
+            turn: self.turn,
             class,
             standing,
             is_mine: state.is_mine(),
@@ -148,7 +163,7 @@ impl Leveling<'_> {
     }
 
     /// Takes in what comes, within its class, to what is there; but nothing that has the value 0 in any case.
-    fn go_back(&mut self, side: &mut Side) -> Result<(), AllocError> {
+    pub fn go_back(&mut self, side: &mut Side) -> Result<(), AllocError> {
         for place in 0..usize::MAX {
             let Some(w) = self.reached.get(place).copied() else {
                 break;
@@ -160,7 +175,7 @@ impl Leveling<'_> {
                 if state.row == class
                     && (!state.is_mine() || state.to == w)
                     && state.priority() <= self.level
-                    && self.member(*v).level != self.level
+                    && !self.is_in(*v)
                     && !is_marked(self.is_settled, *v)
                 {
                     self.reach(side, *v, class, Standing::Loose)?;
@@ -182,7 +197,7 @@ impl Leveling<'_> {
             let mut outside = NONE;
             for w in side.successors(v) {
                 let other = self.member(*w);
-                if other.level == self.level {
+                if other.turn == self.turn {
                     member.left = member
                         .left
                         .saturating_add((other.class == member.class) as u32);
@@ -425,7 +440,6 @@ impl Leveling<'_> {
 
     /// The rounds of a level. False where they end too early.
     fn run(&mut self, alloc: Global, side: &mut Side) -> Result<bool, AllocError> {
-        self.go_back(side)?;
         self.find_first(side)?;
         for _ in 0..u64::MAX {
             for _ in 0..u64::MAX {
@@ -490,6 +504,8 @@ pub fn set_by_levels(
         members: vec![in alloc; Member::NOWHERE; side.len() as usize]?,
         lasts: Vec::new(alloc),
         level: 0,
+        turn: 0,
+        part: FEW,
         value: 0,
         reached: Vec::new(alloc),
         many: 0,
@@ -508,6 +524,10 @@ pub fn set_by_levels(
             continue;
         }
         leveling.begin(side, level, &asked)?;
+        leveling.go_back(side)?;
+        if leveling.reached.len() > open.len() / PART {
+            leveling.shun(alloc, side, &levels, number, &asked)?;
+        }
         if !leveling.run(alloc, side)? {
             return Ok(false);
         }

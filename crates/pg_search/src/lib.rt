@@ -14,6 +14,7 @@ mod one_parity;
 mod proposal;
 mod region;
 mod search;
+mod shunning;
 mod ways;
 
 pub use proposal::{propose, propose_measure};

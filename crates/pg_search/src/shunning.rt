@@ -1,0 +1,130 @@
+//! Strategies that shun levels.
+//!
+//! Where many vertices come to a level as the winner chooses, it plays a game on all that comes to that level or to one of the next. There
+//! it loses at vertices that have one of their priorities. Where it wins it chooses as it won: it stays in the class without any of the levels,
+//! or leaves it. So these vertices have the component 0 at each of the levels, and need no look there. The more levels the fewer such
+//! vertices: where most are lost the next game is of fewer levels.
+
+use crate::asked::{Asked, Levels};
+use crate::board::{FIRST, LOST, WON};
+use crate::leveling::{Leveling, Standing};
+use pg_search_rows::{Side, at, count};
+use std::alloc::{AllocError, Global};
+
+/// Of how many vertices one may be of the levels, at most.
+pub(crate) const FEW: usize = 256;
+
+impl Leveling<'_> {
+    /// Lets the winner choose anew, until few vertices come to a level, which then begins again.
+    pub fn shun(
+        &mut self,
+        alloc: Global,
+        side: &mut Side,
+        levels: &Levels,
+        number: u32,
+        asked: &[Asked],
+    ) -> Result<(), AllocError> {
+        let level = self.level;
+        for _ in 0..u32::BITS {
+            let many = self.reached.len();
+            let most = many / self.part.max(1);
+            if asked.len() > most {
+                break;
+            }
+            self.take_levels(side, levels, number, asked, most)?;
+            self.choose_anew(alloc, side)?;
+            self.begin(side, level, asked)?;
+            self.go_back(side)?;
+            if self.reached.len() < many / 2 {
+                break;
+            }
+            self.part = self.part.saturating_mul(4);
+        }
+        self.part = (self.part / 4).max(FEW);
+        Ok(())
+    }
+
+    /// Takes in what comes to a level and to the next ones, which are to have few vertices.
+    fn take_levels(
+        &mut self,
+        side: &mut Side,
+        levels: &Levels,
+        number: u32,
+        asked: &[Asked],
+        most: usize,
+    ) -> Result<(), AllocError> {
+        self.begin(side, self.level, &[])?;
+        self.take_level(side, asked)?;
+        for next in (0..number).rev() {
+            if self.reached.len() > most {
+                break;
+            }
+            self.take_level(side, levels.asked(next))?;
+        }
+        self.go_back(side)
+    }
+
+    /// Takes in what is asked for at a level.
+    fn take_level(&mut self, side: &Side, asked: &[Asked]) -> Result<(), AllocError> {
+        for it in asked {
+            if !self.is_in(it.vertex) {
+                let above = self.level.saturating_add(1);
+                let class = side.rows.cut(side.row(it.vertex), above);
+                self.reach(side, it.vertex, class, Standing::Rises)?;
+            }
+        }
+        Ok(())
+    }
+
+    /// Lets the winner choose as it wins without the levels that were taken in.
+    fn choose_anew(&mut self, alloc: Global, side: &mut Side) -> Result<(), AllocError> {
+        self.board.clear()?;
+        for place in 0..count(self.reached.len()) {
+            let vertex = at(&self.reached, place);
+            let member = self.member(vertex);
+            if member.standing == Standing::Loose {
+                let row = member.class;
+                self.board.node(Asked { vertex, row })?;
+            }
+        }
+        for node in FIRST..self.board.len() {
+            self.lead(side, node)?;
+        }
+        let played = self.board.play(alloc)?;
+        for node in &played.winners.of_even {
+            let v = self.board.claim(*node).vertex;
+            let chosen = at(&played.winners.choice, *node);
+            if side.state(v).is_mine() && chosen >= FIRST {
+                side.set_to(v, self.board.claim(chosen).vertex);
+            }
+        }
+        Ok(())
+    }
+
+    /// Lets the node of a vertex lead to those of its successors in the class.
+    fn lead(&mut self, side: &mut Side, node: u32) -> Result<(), AllocError> {
+        let Asked { vertex, row } = self.board.claim(node);
+        let state = side.state(vertex);
+        let is_mine = state.is_mine();
+        self.board.begin(state.priority(), is_mine)?;
+        let mut end = if is_mine { WON } else { LOST };
+        for w in side.successors(vertex) {
+            if side.rows.cut(side.row(*w), self.level.saturating_add(1)) != row {
+                continue;
+            }
+            if self.is_in(*w) && self.member(*w).standing == Standing::Loose {
+                end = self.board.node(Asked { vertex: *w, row })?;
+                self.board.lead_to(end)?;
+            } else if is_mine && !self.is_in(*w) {
+                side.set_to(vertex, *w);
+                return self.board.lead_to(LOST);
+            } else if !is_mine && self.is_in(*w) {
+                return self.board.lead_to(WON);
+            }
+        }
+        if end < FIRST {
+            self.board.lead_to(end)?;
+        }
+        Ok(())
+    }
+}
