@@ -1,5 +1,7 @@
 //! Files, and standard input, that are the input of a command.
 
+ghost use Rattle.std.specs.Prelude.{◌≡◌, ◌≢◌};
+
 use pg_cli::{CliFault, read_input};
 use pg_cli_request::{Fault, Texts};
 use pg_cli_words::STANDARD_INPUT;
@@ -11,6 +13,17 @@ use std::io;
 #[derive(Clone, Copy)]
 pub(crate) struct Disk<'r, R> {
     pub rt: &'r R,
+}
+
+/// Why the file of this name has no text, by why its bytes aren't read.
+fn fault_in(name: &str, fault: CliFault) -> Fault<'_>
+    ensures read { fault ≡ CliFault.Read → result ≡ Fault.Read name.entry }
+    ensures other { fault ≢ CliFault.Read → result ≡ Fault.Cli fault }
+{
+    match fault {
+        CliFault::Read => Fault::Read(name),
+        _ => Fault::Cli(fault),
+    }
 }
 
 /// Opens a file that isn't a folder.
@@ -33,8 +46,8 @@ impl<R: Files + Input + AllocGlobal> Texts for Disk<'_, R> {
         }
         match open_file(self.rt, name) {
             Ok(mut file) => match read_input(alloc, &mut file) {
-                Err(CliFault::Read) => Err(Fault::Read(name)),
-                text => Ok(text?),
+                Ok(text) => Ok(text),
+                Err(fault) => Err(fault_in(name, fault)),
             },
             Err(why) if why.kind() == io::ErrorKind::OutOfMemory => Err(Fault::from(AllocError)),
             Err(why) => Err(Fault::Open(name, why)),

@@ -1,6 +1,6 @@
 //! The answer to what a command line asks for.
 
-ghost use Rattle.std.specs.Prelude.{◌≡◌, ◌≤◌, ℕ, List, Option, length, map, is_some, IfOk, OnOk};
+ghost use Rattle.std.specs.Prelude.{◌≡◌, ◌≢◌, ◌≤◌, ℕ, List, Option, length, map, is_some, IfOk, OnOk, IfErr};
 ghost use Rattle.std.specs.Option.{option_map};
 ghost use Rattle.std.specs.String.{string_bytes};
 ghost use Rattle.std.specs.Io.KnownBytes.{Appends};
@@ -8,6 +8,7 @@ ghost use Rattle.pg_cli_words.specs.Words.{AsksFor, HasFewWorkers};
 ghost use Rattle.pg_cli_command.specs.Measuring.{IsMeasureOf};
 ghost use Rattle.pg_cli_command.specs.Answers.{PrintsBy};
 ghost use Rattle.pg_cli_request.specs.Inputs.{kind_of, Whole, PrintsOfPair, IsHeaded, PrintsFor, IsAnswered};
+ghost use Rattle.pg_cli_request.specs.Refusals.{HasNoPort, OrLost, RefusesPair, RefusesInput, RefusesFor, IsUnheaded, IsRefused, EndsWork};
 ghost use Rattle.pg_cli_request.specs.Mirrors.Givens.{input_of, IsWithin};
 
 use crate::fault::Fault;
@@ -27,7 +28,8 @@ use std::io::Write;
 
 /// Writes all the bytes, and flushes the output.
 fn write_bytes<W: Write>(output: &mut W, bytes: &[u8]) -> Result<(), CliFault>
-    ensures { OnOk result (Appends (W.contents output.old) (W.contents output.new) bytes.now) }
+    ensures written { OnOk result (Appends (W.contents output.old) (W.contents output.new) bytes.now) }
+    ensures refused { IfErr result (λ fault. fault ≡ CliFault.Write) }
 {
     output.write_all(bytes).map_err(|_| CliFault::Write)?;
     output.flush().map_err(|_| CliFault::Write)
@@ -41,7 +43,8 @@ fn write_whole<R: Reach + AllocGlobal, W: Write>(
     figures: Option<&mut Figures>,
     output: &mut CountedTops<W>,
 ) -> Result<(), CliFault>
-    ensures { OnOk result (Appends (W.contents output.old.inner) (W.contents output.new.inner) answer.now) }
+    ensures written { OnOk result (Appends (W.contents output.old.inner) (W.contents output.new.inner) answer.now) }
+    ensures refused { IfErr result (λ fault. fault ≡ CliFault.Write) }
 {
     let Some(figures) = figures else {
         return write_bytes(output, answer);
@@ -62,8 +65,10 @@ fn write_long<R: Reach + AllocGlobal, W: Write>(
 ) -> Result<(), CliFault>
     requires few { HasFewWorkers command }
     requires limit { length text.items ≤ MOST_BYTES }
-    ensures { OnOk result ((answer : List ℕ) × PrintsBy IsMeasureOf command text.items answer
+    ensures written { OnOk result ((answer : List ℕ) × PrintsBy IsMeasureOf command text.items answer
         × Appends (W.contents output.old.inner) (W.contents output.new.inner) answer) }
+    ensures refused { IfErr result (λ fault. OrLost (RefusesInput IsMeasureOf command (Whole text.items)) (Fault.Cli fault)) }
+    ensures untouched { IfErr result (λ fault. fault ≢ CliFault.Write → output.new.inner ≡ output.old.inner) }
 {
     if figures.is_some() {
         output.tops = Some(0);
@@ -85,7 +90,9 @@ fn answer_in_memory<R: Reach + AllocGlobal>(
 ) -> Result<Vec<u8>, CliFault>
     requires few { HasFewWorkers command }
     requires limit { length text.items ≤ MOST_BYTES }
-    ensures { IfOk result (λ answer. PrintsBy (kind_of (is_some programs)) command text.items answer.items) }
+    ensures answer { IfOk result (λ answer. PrintsBy (kind_of (is_some programs)) command text.items answer.items) }
+    ensures refused { IfErr result (λ fault.
+        OrLost (RefusesInput (kind_of (is_some programs)) command (Whole text.items)) (Fault.Cli fault)) }
 {
     match programs {
         Some(programs) => programs.answer(rt.alloc(), command, text),
@@ -100,7 +107,8 @@ fn name_answer<'a>(
     outs: Option<&'a str>,
     answer: Vec<u8>,
 ) -> Result<Vec<u8>, Fault<'a>>
-    ensures { IfOk result (λ named. IsHeaded (option_map (λ o. o.now) outs.entry) command answer.items named.items) }
+    ensures named { IfOk result (λ named. IsHeaded (option_map (λ o. o.now) outs.entry) command answer.items named.items) }
+    ensures refused { IfErr result (IsUnheaded (option_map (λ o. o.now) outs.entry) command answer.items) }
 {
     match command {
         Command::Automaton => name_outputs(alloc, outs, answer),
@@ -121,9 +129,12 @@ fn write_one<'a, R: Reach + AllocGlobal, W: Write>(
 ) -> Result<(), Fault<'a>>
     requires few { HasFewWorkers command }
     requires limit { length text.items ≤ MOST_BYTES }
-    ensures { OnOk result ((answer : List ℕ)
+    ensures written { OnOk result ((answer : List ℕ)
         × PrintsFor (kind_of (is_some programs)) (option_map (λ o. o.now) outs.entry) command (Whole text.items) answer
         × Appends (W.contents output.old.inner) (W.contents output.new.inner) answer) }
+    ensures refused { IfErr result
+        (RefusesFor (kind_of (is_some programs)) (option_map (λ o. o.now) outs.entry) command (Whole text.items)) }
+    ensures untouched { IfErr result (λ fault. fault ≢ Fault.Cli CliFault.Write → output.new.inner ≡ output.old.inner) }
 {
     match command {
         Command::Measure { .. } | Command::Replay if programs.is_none() => {
@@ -147,8 +158,10 @@ fn write_pair<R: Reach + AllocGlobal, W: Write>(
     figures: Option<&mut Figures>,
     output: &mut CountedTops<W>,
 ) -> Result<(), CliFault>
-    ensures { OnOk result ((answer : List ℕ) × PrintsOfPair pair first.items second.items answer
+    ensures written { OnOk result ((answer : List ℕ) × PrintsOfPair pair first.items second.items answer
         × Appends (W.contents output.old.inner) (W.contents output.new.inner) answer) }
+    ensures refused { IfErr result (λ fault. OrLost (RefusesPair pair first.items second.items) (Fault.Cli fault)) }
+    ensures untouched { IfErr result (λ fault. fault ≢ CliFault.Write → output.new.inner ≡ output.old.inner) }
 {
     let alloc = rt.alloc();
     match pair {
@@ -186,9 +199,12 @@ fn write_input<'a, R: Reach + AllocGlobal, W: Write>(
 ) -> Result<(), Fault<'a>>
     requires few { HasFewWorkers command }
     requires limit { IsWithin input }
-    ensures { OnOk result ((answer : List ℕ)
+    ensures written { OnOk result ((answer : List ℕ)
         × PrintsFor (kind_of (is_some programs)) (option_map (λ o. o.now) outs.entry) command (input_of input) answer
         × Appends (W.contents output.old.inner) (W.contents output.new.inner) answer) }
+    ensures refused { IfErr result
+        (RefusesFor (kind_of (is_some programs)) (option_map (λ o. o.now) outs.entry) command (input_of input)) }
+    ensures untouched { IfErr result (λ fault. fault ≢ Fault.Cli CliFault.Write → output.new.inner ≡ output.old.inner) }
 {
     match input {
         Given::Whole(text) => write_one(rt, command, programs, outs, text, figures, output),
@@ -217,7 +233,8 @@ fn programs_of<R: Reach + AllocGlobal>(
     command: Command,
     apart: Option<&str>,
 ) -> Result<Option<Programs<R>>, CliFault>
-    ensures { IfOk result (λ programs. is_some programs ≡ is_some apart.entry) }
+    ensures listened { IfOk result (λ programs. is_some programs ≡ is_some apart.entry) }
+    ensures refused { IfErr result (λ fault. HasNoPort (is_some apart.entry) command (Fault.Cli fault)) }
 {
     match apart {
         Some(path) => Ok(Some(Programs::listen(rt, rt.alloc(), command, path)?)),
@@ -274,8 +291,11 @@ fn answer<'a, R: Reach + AllocGlobal, T: Texts, W: Write, E: Write>(
     errors: &mut E,
 ) -> Result<(), Fault<'a>>
     requires { HasFewWorkers command }
-    ensures { OnOk result (IsAnswered (T.holds texts.now) (kind_of (is_some options.entry.apart)) command (map (λ f. f.now) files.now)
+    ensures answered { OnOk result (IsAnswered (T.holds texts.now) (kind_of (is_some options.entry.apart)) command (map (λ f. f.now) files.now)
         (option_map (λ o. o.now) options.entry.outs) (W.contents output.old.inner) (W.contents output.new.inner)) }
+    ensures refused { IfErr result (IsRefused (T.holds texts.now) (is_some options.entry.apart) command (map (λ f. f.now) files.now)
+        (option_map (λ o. o.now) options.entry.outs)) }
+    ensures untouched { IfErr result (λ fault. fault ≢ Fault.Cli CliFault.Write → output.new.inner ≡ output.old.inner) }
 {
     let programs = programs_of(rt, command, options.apart)?;
     let watch = Watch::start(rt);
@@ -300,6 +320,11 @@ fn answer<'a, R: Reach + AllocGlobal, T: Texts, W: Write, E: Write>(
 
 /// Does what a command line asks for: writes the answer of a command to its files, or serves as a worker. What is kept of the input is for
 /// notes on a fault.
+///
+/// Of a command it returns the first of these faults. `Cli(Listen)`, if its workers are programs and no port can be listened at. `Open`, `Read`,
+/// or for standard input `Cli(Read)`, and `Cli(InputTooLong)`. If outputs are named, `Cli(NoSeparator)`, `Cli(Hoa)`, `Controlled`,
+/// `NoProposition` and `Cli(InputTooLong)`; of `automaton` they come behind the others, but for `Cli(Write)`. `Cli` with a fault of
+/// `pg_cli::answer`. `Cli(Write)`. `Cli(OutOfMemory)` can come at any point. Of a worker it returns `Cli` with a fault of `pg_cli::work`.
 pub fn obey<'a, R: Reach + AllocGlobal, T: Texts, W: Write, E: Write>(
     rt: &R,
     request: &'a Request,
@@ -310,9 +335,14 @@ pub fn obey<'a, R: Reach + AllocGlobal, T: Texts, W: Write, E: Write>(
     errors: &mut E,
 ) -> Result<(), Fault<'a>>
     requires { (words : List (List ℕ)) × AsksFor words request.now.line }
-    ensures { (command : _) (apart : _) → request.now.line ≡ Invocation.Run command apart
+    ensures answered { (command : _) (apart : _) → request.now.line ≡ Invocation.Run command apart
         → OnOk result (IsAnswered (T.holds texts.now) (kind_of (is_some apart)) command (map (λ f. f.now) files.now)
         (option_map string_bytes request.now.outs) (W.contents output.old.inner) (W.contents output.new.inner)) }
+    ensures refused { (command : _) (apart : _) → request.now.line ≡ Invocation.Run command apart
+        → IfErr result (IsRefused (T.holds texts.now) (is_some apart) command (map (λ f. f.now) files.now)
+        (option_map string_bytes request.now.outs)) }
+    ensures served { (port : _) → request.now.line ≡ Invocation.Work port → IfErr result (EndsWork port) }
+    ensures untouched { IfErr result (λ fault. fault ≢ Fault.Cli CliFault.Write → output.new.inner ≡ output.old.inner) }
 {
     match &request.line {
         Invocation::Run(command, apart) => {

@@ -1,7 +1,8 @@
 //! What a command is given.
 
-ghost use Rattle.std.specs.Prelude.{◌≡◌, ◌≤◌, length, map, nat_eq, codes, IfOk};
+ghost use Rattle.std.specs.Prelude.{◌≡◌, ◌≤◌, length, map, nat_eq, codes, IfOk, IfErr};
 ghost use Rattle.pg_cli_request.specs.Inputs.{joined_length, IsRead};
+ghost use Rattle.pg_cli_request.specs.Refusals.{AreUnread, HasNoInput};
 ghost use Rattle.pg_cli_request.specs.Mirrors.Givens.{input_of, IsWithin};
 
 use crate::fault::Fault;
@@ -40,6 +41,7 @@ fn read_both<'a, T: Texts>(
     ensures first { IfOk result (λ both. T.holds texts.now first.now both.0.items) }
     ensures second { IfOk result (λ both. T.holds texts.now second.now both.1.items) }
     ensures limit { IfOk result (λ both. joined_length both.0.items both.1.items ≤ MOST_BYTES) }
+    ensures refused { IfErr result (AreUnread (T.holds texts.now) first.now second.now) }
 {
     let first = texts.text(first)?;
     let second = texts.text(second)?;
@@ -58,6 +60,7 @@ pub(crate) fn read<'a, T: Texts>(
 ) -> Result<Given, Fault<'a>>
     ensures read { IfOk result (λ given. IsRead (T.holds texts.now) command (map (λ f. f.now) files.now) (input_of given)) }
     ensures limit { IfOk result IsWithin }
+    ensures refused { IfErr result (HasNoInput (T.holds texts.now) command (map (λ f. f.now) files.now)) }
 {
     match (pair_of(command), files) {
         (Some(pair), [first, second, ..]) => {

@@ -1,8 +1,10 @@
 //! Outputs that the command line names.
 
-ghost use Rattle.std.specs.Prelude.{◌≡◌, ◌≤◌, ℕ, Some, length, map, IfOk};
+ghost use Rattle.std.specs.Prelude.{◌≡◌, ◌≤◌, ℕ, List, Some, length, map, IfOk, IfErr};
 ghost use Rattle.std.specs.Option.{option_map};
+ghost use Rattle.pg_hoa.specs.Outputs.{RefusesOutputs};
 ghost use Rattle.pg_cli_request.specs.Inputs.{Whole, names_in, HasNamed, IsNamed};
+ghost use Rattle.pg_cli_request.specs.Refusals.{RefusesNames, HasNoNamed, IsUnnamed};
 ghost use Rattle.pg_cli_request.specs.Mirrors.Givens.{input_of, IsWithin};
 
 use crate::fault::Fault;
@@ -27,7 +29,9 @@ fn names_in(alloc: Global, outs: &str) -> Result<Vec<&[u8]>, AllocError>
 }
 
 /// The fault for a reason why outputs can't be named.
-fn fault_of(fault: OutputsFault, outs: &str) -> Fault<'_> {
+fn fault_of(fault: OutputsFault, outs: &str) -> Fault<'_>
+    ensures { (text : List ℕ) → RefusesOutputs text (names_in outs.now) fault → RefusesNames outs.now text result }
+{
     match fault {
         OutputsFault::Text(fault) => Fault::Cli(CliFault::from(fault)),
         OutputsFault::Controlled => Fault::Controlled,
@@ -46,6 +50,7 @@ pub(crate) fn name_outputs<'a>(
 ) -> Result<Vec<u8>, Fault<'a>>
     ensures named { IfOk result (λ named. HasNamed (option_map (λ o. o.now) outs.entry) text.items named.items) }
     ensures limit { length text.items ≤ MOST_BYTES → IfOk result (λ named. length named.items ≤ MOST_BYTES) }
+    ensures refused { IfErr result (HasNoNamed (option_map (λ o. o.now) outs.entry) text.items) }
 {
     let Some(outs) = outs else {
         return Ok(text);
@@ -73,6 +78,8 @@ fn name_parted<'a>(
     ensures limit { IfOk result IsWithin }
     ensures named { IfOk result (λ input. (workers : ℕ)
         → IsNamed (Some outs.now) (Command.Verify workers by_place environment) (Whole text.now) (input_of input)) }
+    ensures refused { IfErr result (λ fault. (workers : ℕ)
+        → IsUnnamed (Some outs.now) (Command.Verify workers by_place environment) (Whole text.now) fault) }
 {
     let (first, second) = part_texts(alloc, text)?;
     let first = name_outputs(alloc, Some(outs), first)?;
@@ -96,6 +103,7 @@ pub(crate) fn name_given<'a>(
     requires limit { IsWithin given }
     ensures named { IfOk result (λ input. IsNamed (option_map (λ o. o.now) outs.entry) command (input_of given) (input_of input)) }
     ensures limit { IfOk result IsWithin }
+    ensures refused { IfErr result (IsUnnamed (option_map (λ o. o.now) outs.entry) command (input_of given)) }
 {
     match given {
         Given::Apart(pair, first, second) => Ok(Given::Apart(

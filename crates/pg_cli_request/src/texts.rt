@@ -1,6 +1,7 @@
 //! Where the texts of files come from.
 
-ghost use Rattle.std.specs.Prelude.{◌≤◌, List, ℕ, length, IfOk};
+ghost use Rattle.std.specs.Prelude.{◌≤◌, List, ℕ, length, IfOk, IfErr};
+ghost use Rattle.pg_cli_request.specs.Refusals.{IsUnread};
 
 use crate::fault::Fault;
 use pg_cli::MOST_BYTES;
@@ -10,8 +11,10 @@ pub trait Texts {
     /// The file of this name has this text.
     ghost holds: { Self → List ℕ → List ℕ → Type 0 };
 
-    /// The text of the file of this name, or of standard input under the name `-`. It refuses more than 268,435,456 bytes.
+    /// The text of the file of this name, or of standard input under the name `-`. It refuses more than 268,435,456 bytes. The faults `Open`
+    /// and `Read` have this name, and `Cli(Read)` is of standard input.
     fn text<'a>(&self, name: &'a str) -> Result<Vec<u8>, Fault<'a>>
         ensures text { IfOk result (λ text. holds self.now name.now text.items) }
-        ensures limit { IfOk result (λ text. length text.items ≤ MOST_BYTES) };
+        ensures limit { IfOk result (λ text. length text.items ≤ MOST_BYTES) }
+        ensures refused { IfErr result (IsUnread (holds self.now) name.now) };
 }
