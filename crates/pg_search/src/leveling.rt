@@ -7,13 +7,13 @@
 
 use crate::asked::{Asked, Levels};
 use crate::board::Board;
-use crate::shunning::FEW;
+use crate::shunning::{FEW, Pause};
 use pg_search_rows::{NONE, Side, ZEROS, at, count, is_marked, item, put};
 use std::alloc::{AllocError, Global};
 use std::mem;
 
 /// Of a part of the open vertices the winner chooses anew, where these come to a level.
-const PART: usize = 16;
+const PART: usize = 4;
 
 /// How a vertex without a value stands in a round, and that it has one.
 #[derive(Clone, Copy, PartialEq, Eq)]
@@ -72,6 +72,7 @@ pub(crate) struct Leveling<'m> {
     turn: u32,
     /// What part of the vertices may be of the levels that the winner chooses to stay without.
     pub part: usize,
+    pub pause: Pause,
     value: u32,
     /// The vertices of the level, known ones too; and how many have no value.
     pub reached: Vec<u32>,
@@ -506,6 +507,7 @@ pub fn set_by_levels(
         level: 0,
         turn: 0,
         part: FEW,
+        pause: Pause::NONE,
         value: 0,
         reached: Vec::new(alloc),
         many: 0,

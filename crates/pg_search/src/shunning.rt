@@ -14,6 +14,25 @@ use std::alloc::{AllocError, Global};
 /// Of how many vertices one may be of the levels, at most.
 pub(crate) const FEW: usize = 256;
 
+/// How many levels the winner chooses nothing at after that was of no use, and how many of them are left. Each time it is twice as many.
+#[derive(Clone, Copy)]
+pub(crate) struct Pause {
+    long: u32,
+    left: u32,
+}
+
+impl Pause {
+    pub const NONE: Pause = Pause { long: 0, left: 0 };
+
+    fn next(self, was_of_use: bool) -> Pause {
+        if was_of_use {
+            return Pause::NONE;
+        }
+        let long = self.long.saturating_mul(2).saturating_add(1);
+        Pause { long, left: long }
+    }
+}
+
 impl Leveling<'_> {
     /// Lets the winner choose anew, until few vertices come to a level, which then begins again.
     pub fn shun(
@@ -24,7 +43,12 @@ impl Leveling<'_> {
         number: u32,
         asked: &[Asked],
     ) -> Result<(), AllocError> {
+        if self.pause.left > 0 {
+            self.pause.left -= 1;
+            return Ok(());
+        }
         let level = self.level;
+        let mut is_less = false;
         for _ in 0..u32::BITS {
             let many = self.reached.len();
             let most = many / self.part.max(1);
@@ -35,12 +59,14 @@ impl Leveling<'_> {
             self.choose_anew(alloc, side)?;
             self.begin(side, level, asked)?;
             self.go_back(side)?;
-            if self.reached.len() < many / 2 {
+            is_less = self.reached.len() < many / 2;
+            if is_less {
                 break;
             }
             self.part = self.part.saturating_mul(4);
         }
         self.part = (self.part / 4).max(FEW);
+        self.pause = self.pause.next(is_less);
         Ok(())
     }
 
