@@ -660,6 +660,8 @@ def cases(program):
         yield f"running out of memory in {what}", lambda c=command, t=text, w=wanted: survives_want_of_memory(program, c, t, w)
     yield "running out of memory in automaton", lambda: survives_with_what_is_judged(
         program, ["automaton"], b"G (a -> F b)", lambda text: [["means"], text + b"--\nG (a -> F b)", b"SAME\n"])
+    yield "running out of memory in synth --small", lambda: survives_with_what_is_judged(
+        program, ["synth", "--small"], delay, lambda text: [["verify"], delay + b"--\n" + text, b"ACCEPTED\n"])
     foresight = (case.TOP / "examples/foresight.hoa").read_bytes()
     yield "running out of memory in synth --counter", lambda: survives_with_what_is_judged(
         program, ["synth", "--counter"], foresight,

@@ -198,7 +198,7 @@ def small_circuits(program):
     """`synth --small` answers what `synth` does. Its circuits have no more latches and gates, and are accepted: by `verify`, and by a
     search for a run that ends or is rejected. So are circuits of the environment by `verify --environment`."""
     why, plain_parts, small_parts = None, 0, 0
-    for _, a, plain in random_circuits(program, 100):
+    for _, a, plain in random_circuits(program, 300):
         found, text = why_not_small(program, a, controllers.automaton_text(a).encode(), plain)
         why = why or found
         plain_parts, small_parts = plain_parts + parts_of(plain), small_parts + parts_of(text)
