@@ -3,6 +3,7 @@
 #![tactic(auto)]
 
 mod graph;
+mod implied;
 mod lists;
 mod product;
 mod proposal;

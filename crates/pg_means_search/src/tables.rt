@@ -129,7 +129,7 @@ impl Tables {
         }
         let mut moves = Vec::new(alloc);
         for choice in self.pool.list(list) {
-            moves.push(product.sets.number(&choice.asks)?)?;
+            moves.push(product.set(alloc, &choice.asks)?)?;
             moves.push(product.puts.number(&choice.puts)?)?;
         }
         let number = self.moves.number(&moves)?;
