@@ -1,7 +1,8 @@
 -- What a command is given, and what it prints of that.
-use Rattle.std.specs.Prelude.{◌≡◌, ◌==◌, ℕ, ◌+◌, ◌<◌, ◌≤◌, ◌⊎◌, List, length, nat_eq, slice_index_or, codes, if◌then◌else◌}
+use Rattle.std.specs.Prelude.{◌≡◌, ◌==◌, ℕ, ◌+◌, ◌<◌, ◌≤◌, ◌⊎◌, List, length, map, nat_eq, slice_index_or, codes, if◌then◌else◌}
 use Rattle.std.specs.Prelude.{Bool, false, true, Option, Some, None}
 use Rattle.std.specs.List.{ends_with, slice_split}
+use Rattle.std.specs.Str.{trim}
 use Rattle.std.specs.Io.KnownBytes.{Appends}
 use Rattle.pg_hoa.specs.Outputs.{HasOutputs}
 use Rattle.pg_cli_words.specs.declared.command.Command.{Command}
@@ -42,9 +43,9 @@ IsRead holds command files (Apart pair first second) =
     (pair_of command ≡ Some pair) × (2 ≤ length files) × (joined_length first second ≤ 268435456)
     × holds (slice_index_or files 0 (codes "-")) first × holds (slice_index_or files 1 (codes "-")) second
 
--- the names between commas
+-- the names between commas, without the white space around them
 abbrev pub names_in : List ℕ → List (List ℕ)
-names_in outs = slice_split (λ b. b == 44) outs
+names_in outs = map trim (slice_split (λ b. b == 44) outs)
 
 -- the text is the same but that the controller sets these outputs, if any are named
 abbrev pub HasNamed : Option (List ℕ) → List ℕ → List ℕ → Type 0

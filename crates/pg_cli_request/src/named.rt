@@ -17,13 +17,13 @@ use std::alloc::{AllocError, Global};
 /// What stands between two names.
 const COMMA: char = ',';
 
-/// The names between commas.
+/// The names between commas, without the white space around them.
 fn names_in(alloc: Global, outs: &str) -> Result<Vec<&[u8]>, AllocError>
     ensures { IfOk result (λ names. map (λ name. name.now) names.items ≡ names_in outs.now) }
 {
     let mut names = Vec::new(alloc);
     for name in outs.split(COMMA) {
-        names.push(name.as_bytes())?;
+        names.push(name.trim().as_bytes())?;
     }
     Ok(names)
 }
@@ -36,7 +36,7 @@ fn fault_of(fault: OutputsFault, outs: &str) -> Fault<'_>
         OutputsFault::Text(fault) => Fault::Cli(CliFault::from(fault)),
         OutputsFault::Controlled => Fault::Controlled,
         OutputsFault::NoProposition(place) => Fault::NoProposition(
-            outs.split(COMMA).nth(place).unwrap_or(outs),
+            outs.split(COMMA).nth(place).unwrap_or(outs).trim(),
         ),
     }
 }

@@ -15,6 +15,9 @@ use pg_world::ScriptFault;
 use std::alloc::Global;
 use std::io::{self, Write};
 
+const BLANKS: &str =
+    "--outs leaves out blanks around a name; the header controllable-AP takes such a proposition by its number";
+
 /// A place in a file; lines and columns count from 1, and a column is a character of UTF-8.
 #[derive(Clone, Copy)]
 struct Place<'a> {
@@ -148,6 +151,7 @@ fn begins_line(game: Text<'_>, offset: usize) -> bool {
 
 /// What may help with a fault of a text.
 fn text_hint(
+    alloc: Global,
     command: Command,
     text: Text<'_>,
     is_first: bool,
@@ -165,7 +169,7 @@ fn text_hint(
         | CliFault::Hoa(HoaFault::Syntax(_))
         | CliFault::Circuit(ReaderFault::Syntax(_))
         | CliFault::Formula(FormulaFault::Syntax(_)) => {
-            Some(Hint::Said(on_syntax(text.bytes, offset, kind)?))
+            Some(Hint::Said(on_syntax(alloc, text.bytes, offset, kind)?))
         }
         CliFault::Text(TextFault::NumberTooLarge(_)) if is_first && begins_line(text, offset) => {
             Some(Hint::Said(
@@ -207,7 +211,7 @@ impl<'a> FaultNotes<'a> {
                 notes.place = place_in(text, offset);
                 notes.hint = notes
                     .hint
-                    .or(text_hint(command, text, is_first, offset, fault));
+                    .or(text_hint(alloc, command, text, is_first, offset, fault));
             }
         }
         notes
@@ -216,11 +220,16 @@ impl<'a> FaultNotes<'a> {
     /// The notes on the name of an output that no proposition has.
     pub fn of_name(alloc: Global, kept: &'a Kept<'a>, name: &str) -> FaultNotes<'a> {
         let mut notes = FaultNotes::none();
-        if name.trim() != name {
-            notes.hint = Some(Hint::Said("--outs takes blanks beside a comma as part of a name"));
-        }
-        if let (Some(first), _) = kept.texts() {
-            notes.set_names(alloc, first, Named::All);
+        let (Some(first), _) = kept.texts() else {
+            return notes;
+        };
+        notes.set_names(alloc, first, Named::All);
+        if let Some((_, names)) = &notes.names {
+            if names.iter().any(|known| known.as_slice() != name.as_bytes()
+                && known.trim_ascii() == name.as_bytes())
+            {
+                notes.hint = Some(Hint::Said(BLANKS));
+            }
         }
         notes
     }

@@ -43,11 +43,18 @@ struct Parts {
     gates: usize,
 }
 
-/// The names of the propositions of each side, as they are printed.
+/// The names of the propositions that one side sets, as a line lists them, and as an array of JSON.
+#[derive(Drop)]
+struct Side {
+    line: Vec<u8>,
+    array: Vec<u8>,
+}
+
+/// The names of the propositions of each side.
 #[derive(Drop)]
 struct Sides {
-    inputs: Vec<u8>,
-    outputs: Vec<u8>,
+    inputs: Side,
+    outputs: Side,
 }
 
 /// Tells how long a piece of work took, one after the other.
@@ -198,24 +205,43 @@ fn tops_in(measures: &[u8]) -> usize {
     measures.iter().filter(|byte| **byte == b'T').count()
 }
 
-/// The names of the propositions that one side sets, each in quotes, with commas between.
-fn side_of(
-    alloc: Global,
-    automaton: &Automaton,
-    is_controller: bool,
-) -> Result<Vec<u8>, AllocError> {
-    let mut names = Vec::new(alloc);
-    for a in 0..automaton.propositions() {
-        if automaton.controllable(a) == is_controller {
-            names.extend_from_slice(if names.is_empty() { b"\"" } else { b", \"" })?;
-            names.extend_from_slice(automaton.proposition(a))?;
-            names.push(b'"')?;
+/// Adds a name, which has no control characters, as a string of JSON. If it isn't UTF-8, each byte over 127 becomes the replacement
+/// character.
+fn push_string(array: &mut Vec<u8>, name: &[u8]) -> Result<(), AllocError> {
+    let is_text = str::from_utf8(name).is_ok();
+    array.push(b'"')?;
+    for byte in name {
+        match *byte {
+            b'"' | b'\\' => array.extend_from_slice(&[b'\\', *byte])?,
+            128..=255 if !is_text => array.extend_from_slice(b"\\ufffd")?,
+            _ => array.push(*byte)?,
         }
     }
-    if names.is_empty() {
-        names.extend_from_slice(b"none")?;
+    array.push(b'"')?;
+    Ok(())
+}
+
+/// The names of the propositions that one side sets.
+fn side_of(alloc: Global, automaton: &Automaton, is_controller: bool) -> Result<Side, AllocError> {
+    let mut line = Vec::new(alloc);
+    let mut array = Vec::from_slice(alloc, b"[")?;
+    for a in 0..automaton.propositions() {
+        if automaton.controllable(a) == is_controller {
+            let name = automaton.proposition(a);
+            let between: &[u8] = if line.is_empty() { b"" } else { b", " };
+            line.extend_from_slice(between)?;
+            line.push(b'"')?;
+            line.extend_from_slice(name)?;
+            line.push(b'"')?;
+            array.extend_from_slice(between)?;
+            push_string(&mut array, name)?;
+        }
     }
-    Ok(names)
+    if line.is_empty() {
+        line.extend_from_slice(b"none")?;
+    }
+    array.push(b']')?;
+    Ok(Side { line, array })
 }
 
 /// The names of the propositions of both sides.
@@ -530,6 +556,9 @@ impl Figures {
                 before = ", ";
             }
         }
+        if let Some(sides) = &self.sides {
+            sides.write_json(errors)?;
+        }
         errors.write_all(b"}\n")
     }
 }
@@ -537,10 +566,18 @@ impl Figures {
 impl Sides {
     fn write<E: Write>(&self, errors: &mut E) -> io::Result<()> {
         errors.write_all(b"parsolve: stats: inputs ")?;
-        errors.write_all(self.inputs.as_slice())?;
+        errors.write_all(self.inputs.line.as_slice())?;
         errors.write_all(b"; outputs ")?;
-        errors.write_all(self.outputs.as_slice())?;
+        errors.write_all(self.outputs.line.as_slice())?;
         writeln!(errors)
+    }
+
+    /// Writes them as the last members of an object.
+    fn write_json<E: Write>(&self, errors: &mut E) -> io::Result<()> {
+        errors.write_all(b", \"inputs\": ")?;
+        errors.write_all(self.inputs.array.as_slice())?;
+        errors.write_all(b", \"outputs\": ")?;
+        errors.write_all(self.outputs.array.as_slice())
     }
 }
 

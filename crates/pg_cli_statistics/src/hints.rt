@@ -1,6 +1,9 @@
 //! What a text looks like that is no text of its kind, and what may help.
 
+use crate::formula_hints::on_formula;
 use pg_cli_words::Command;
+use pg_ltl::read_formula;
+use std::alloc::Global;
 
 /// What a text is of.
 #[derive(Clone, Copy)]
@@ -65,23 +68,23 @@ const BEGINNINGS: [(&[u8], Kind); 13] = [
 const OF_GAMES: [(&[u8], &str); 5] = [
     (
         b"/*",
-        "comments aren't read; tools/pg rewrites the game without them",
+        "parsolve doesn't read comments in games; tools/pg rewrites the game without them",
     ),
     (
         b"//",
-        "comments aren't read; tools/pg rewrites the game without them",
+        "parsolve doesn't read comments in games; tools/pg rewrites the game without them",
     ),
     (
         b"#",
-        "comments aren't read; tools/pg rewrites the game without them",
+        "parsolve doesn't read comments in games; tools/pg rewrites the game without them",
     ),
     (
         b"min-parity",
-        "min-parity isn't read; tools/pg rewrites the game with max parity",
+        "parsolve doesn't read min-parity; tools/pg rewrites the game with max parity",
     ),
     (
         b"max-parity",
-        "max-parity isn't read; tools/pg rewrites it as parity",
+        "parsolve doesn't read max-parity; tools/pg rewrites it as parity",
     ),
 ];
 
@@ -95,12 +98,14 @@ const OF_AUTOMATA: [(&[u8], &str); 1] = [(
 fn another(seen: Kind) -> &'static str {
     match seen {
         Kind::Game => "the text looks like a game; measure, solve, check and replay read games",
-        Kind::Solution => "the text looks like a solution; check reads it behind its game",
-        Kind::Script => "the text looks like a script; replay reads it behind its game",
+        Kind::Solution => "the text looks like a solution; check reads a game and then a solution",
+        Kind::Script => "the text looks like a script; replay reads a game and then a script",
         Kind::Automaton =>
-            "the text looks like an automaton; game, synth, verify and means read automata",
-        Kind::Circuit => "the text looks like a circuit; verify reads it behind its automaton",
-        Kind::Formula => "the text looks like a formula; automaton and means read formulas",
+            "the text looks like an automaton; game and synth read one, and verify and means read one first",
+        Kind::Circuit =>
+            "the text looks like a circuit; verify reads an automaton and then a circuit",
+        Kind::Formula =>
+            "the text looks like a formula; automaton reads one, and means reads an automaton and then a formula",
     }
 }
 
@@ -129,7 +134,7 @@ pub(crate) fn second_kind(command: Command) -> Kind {
 }
 
 /// What stands beside the first beginning that the text has.
-fn beside<T: Copy>(table: &[(&[u8], T)], text: &[u8]) -> Option<T> {
+pub(crate) fn beside<T: Copy>(table: &[(&[u8], T)], text: &[u8]) -> Option<T> {
     for (beginning, found) in table {
         if text.starts_with(beginning) {
             return Some(*found);
@@ -138,18 +143,37 @@ fn beside<T: Copy>(table: &[(&[u8], T)], text: &[u8]) -> Option<T> {
     None
 }
 
+/// Whether a text begins as a specification in TLSF.
+fn is_tlsf(text: &[u8]) -> bool {
+    match text.trim_ascii_start().strip_prefix(b"INFO") {
+        Some(rest) => rest.trim_ascii_start().starts_with(b"{"),
+        None => false,
+    }
+}
+
+/// Whether a text is a formula that has an operator or brackets.
+fn is_formula(alloc: Global, text: &[u8]) -> bool {
+    match read_formula(alloc, text) {
+        Ok((_names, formula)) => formula.nodes.len() > 1,
+        Err(_) => false,
+    }
+}
+
 /// What a text looks like that is to be of this kind. A digit begins solutions too, and no automaton.
-fn looks_like(text: &[u8], wanted: Kind) -> Option<Kind> {
-    let text = text.trim_ascii_start();
-    match (text, wanted) {
+fn looks_like(alloc: Global, text: &[u8], wanted: Kind) -> Option<Kind> {
+    let trimmed = text.trim_ascii_start();
+    match (trimmed, wanted) {
         ([b'0'..=b'9', ..], Kind::Automaton) => Some(Kind::Game),
-        _ => beside(&BEGINNINGS, text),
+        _ => match beside(&BEGINNINGS, trimmed) {
+            None if is_formula(alloc, text) => Some(Kind::Formula),
+            found => found,
+        },
     }
 }
 
 /// What a text looks like that is to be of this kind and looks like one of another.
-fn other_than(text: &[u8], wanted: Kind) -> Option<&'static str> {
-    match (looks_like(text, wanted)?, wanted) {
+fn other_than(alloc: Global, text: &[u8], wanted: Kind) -> Option<&'static str> {
+    match (looks_like(alloc, text, wanted)?, wanted) {
         // a formula may begin with any word
         (Kind::Game | Kind::Solution | Kind::Script, Kind::Formula)
         | (Kind::Game, Kind::Game)
@@ -162,18 +186,37 @@ fn other_than(text: &[u8], wanted: Kind) -> Option<&'static str> {
     }
 }
 
+/// What a text is that no command reads.
+fn unreadable(text: &[u8]) -> Option<&'static str> {
+    if text.trim_ascii().is_empty() {
+        return Some("the text is empty");
+    }
+    if is_tlsf(text) {
+        return Some(
+            "the text looks like TLSF, which parsolve doesn't read; syfco makes a formula of it",
+        );
+    }
+    beside(&FOREIGN, text)
+}
+
 /// What may help with a syntax error at this offset of a text that is to be of this kind.
-pub(crate) fn on_syntax(text: &[u8], offset: usize, wanted: Kind) -> Option<&'static str> {
-    if let Some(hint) = beside(&FOREIGN, text) {
+pub(crate) fn on_syntax(
+    alloc: Global,
+    text: &[u8],
+    offset: usize,
+    wanted: Kind,
+) -> Option<&'static str> {
+    if let Some(hint) = unreadable(text) {
         return Some(hint);
     }
-    if let Some(hint) = other_than(text, wanted) {
+    if let Some(hint) = other_than(alloc, text, wanted) {
         return Some(hint);
     }
     let rest = text.get(offset..)?;
     match wanted {
         Kind::Game => beside(&OF_GAMES, rest),
         Kind::Automaton => beside(&OF_AUTOMATA, rest),
+        Kind::Formula => on_formula(text, offset),
         _ => None,
     }
 }

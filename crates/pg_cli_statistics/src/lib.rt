@@ -4,6 +4,7 @@
 
 mod fault_notes;
 mod figures;
+mod formula_hints;
 mod headers;
 mod hints;
 mod kept;

@@ -1,0 +1,70 @@
+//! What may help with a formula that isn't read.
+
+use crate::hints::beside;
+
+const COMMENTS: &str = "parsolve doesn't read comments in formulas";
+
+const LOGIC: &str = "write & for /\\, and | for \\/";
+
+const ARROWS: &str = "write -> for -->, and <-> for <-->";
+
+const PSL: &str = "parsolve doesn't read the operators of PSL";
+
+const VALUES: &str = "a proposition is true or false: write p and !p for p=1 and p=0";
+
+const ASCII: &str = "write the operators in ASCII: ! & | -> <-> xor X F G U R W M";
+
+const BOUNDS: &str = "parsolve doesn't read bounds such as F[0:2]: write p | X (p | X p)";
+
+const OPERAND: &str =
+    "an operand is missing in front; parsolve doesn't read prefix form, such as & p q";
+
+const OPERATOR: &str =
+    "no operator stands in front; the operators are ! & | -> <-> xor X F G U R W M, and other words are names";
+
+const END: &str = "the text ends inside a formula";
+
+/// What stands in formulas of other tools.
+const FORMS: [(&[u8], &str); 12] = [
+    (b"-->", ARROWS),
+    (b"<--", ARROWS),
+    (b"//", COMMENTS),
+    (b"/*", COMMENTS),
+    (b"#", COMMENTS),
+    (b"--", COMMENTS),
+    (b"/\\", LOGIC),
+    (b"\\/", LOGIC),
+    (b"{", PSL),
+    (b"[*", PSL),
+    (b"[+", PSL),
+    (b"=", VALUES),
+];
+
+/// Whether this byte may stand in a name, or ends a name or an operand in brackets.
+fn ends_operand(byte: u8) -> bool {
+    byte.is_ascii_alphanumeric() || matches!(byte, b'_' | b'.' | b'"' | b')')
+}
+
+/// Whether this byte may begin an operand.
+fn begins_operand(byte: u8) -> bool {
+    byte.is_ascii_alphanumeric() || matches!(byte, b'_' | b'.' | b'"' | b'(' | b'!')
+}
+
+/// What may help where a formula can't go on.
+pub(crate) fn on_formula(text: &[u8], offset: usize) -> Option<&'static str> {
+    let before = text.get(..offset)?.trim_ascii_end();
+    let rest = text.get(offset..)?;
+    if let Some(hint) = beside(&FORMS, rest) {
+        return Some(hint);
+    }
+    match (before.last(), rest) {
+        (_, []) => Some(END),
+        (_, [0x80..=0xFF, ..]) => Some(ASCII),
+        (_, [b'[', b'0'..=b'9' | b':', ..]) => Some(BOUNDS),
+        (None, [b'&' | b'|' | b'^' | b'U' | b'R' | b'V' | b'W' | b'M', ..]) => Some(OPERAND),
+        (Some(last), [first, ..]) if ends_operand(*last) && begins_operand(*first) => Some(
+            OPERATOR,
+        ),
+        _ => None,
+    }
+}
