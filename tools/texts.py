@@ -1,5 +1,6 @@
 """What the tools have in common: faults, the tokens of a text, inputs that are read, programs that are asked and answers that are
 written."""
+import argparse
 import pathlib
 import re
 import subprocess
@@ -15,6 +16,14 @@ AUTOMATON_BLANKS, COMMENT_MARK = re.compile(rb"[\t\n\r ]*"), re.compile(rb"/\*|\
 
 class Fault(Exception):
     """What is wrong, in the words that the user sees."""
+
+
+def command_line(text):
+    """A reader of a tool's command line, with its help text, in which tools go by the names that they are installed under if this one was
+    called by such a name."""
+    called = pathlib.Path(sys.argv[0]).name
+    return argparse.ArgumentParser(description=text.replace("tools/", "parsolve-") if called.startswith("parsolve-") else text,
+                                   formatter_class=argparse.RawDescriptionHelpFormatter, prog=called, allow_abbrev=False)
 
 
 class Tokens:
