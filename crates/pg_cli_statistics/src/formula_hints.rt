@@ -17,15 +17,15 @@ const ASCII: &str = "write the operators in ASCII: ! & | -> <-> xor X F G U R W 
 const BOUNDS: &str = "parsolve doesn't read bounds such as F[0:2]: write p | X (p | X p)";
 
 const OPERAND: &str =
-    "an operand is missing in front; parsolve doesn't read prefix form, such as & p q";
+    "an operand is missing here; parsolve doesn't read prefix form, such as & p q";
 
 const OPERATOR: &str =
-    "no operator stands in front; the operators are ! & | -> <-> xor X F G U R W M, and other words are names";
+    "an operator is missing here; the operators are ! & | -> <-> xor X F G U R W M, and any other word is a name";
 
 const END: &str = "the text ends inside a formula";
 
 /// What stands in formulas of other tools.
-const FORMS: [(&[u8], &str); 12] = [
+const FORMS: [(&[u8], &str); 13] = [
     (b"-->", ARROWS),
     (b"<--", ARROWS),
     (b"//", COMMENTS),
@@ -38,6 +38,7 @@ const FORMS: [(&[u8], &str); 12] = [
     (b"[*", PSL),
     (b"[+", PSL),
     (b"=", VALUES),
+    (b"!=", VALUES),
 ];
 
 /// Whether this byte may stand in a name, or ends a name or an operand in brackets.

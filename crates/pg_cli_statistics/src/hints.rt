@@ -193,7 +193,7 @@ fn unreadable(text: &[u8]) -> Option<&'static str> {
     }
     if is_tlsf(text) {
         return Some(
-            "the text looks like TLSF, which parsolve doesn't read; syfco makes a formula of it",
+            "the text looks like TLSF, which parsolve doesn't read; syfco turns TLSF into a formula",
         );
     }
     beside(&FOREIGN, text)

@@ -173,10 +173,10 @@ const AUTOMATON: Help = Help {
     usage: "parsolve automaton [OPTIONS] [FORMULA]",
     more: "\
 Input: a formula of linear temporal logic, such as `G (request -> F grant)`, from the file FORMULA or from standard input.
-It has the operators of Spot: `!` `&` `|` `->` `<->` `xor`, `X` `F` `G` `U` `R` `W` `M`. An input of several formulas, each
-with a `;` behind it, says that all of them hold.
+Its operators are those of Spot: `!` `&` `|` `->` `<->` `xor`, `X` `F` `G` `U` `R` `W` `M`. If there are several formulas,
+each followed by `;`, all of them have to hold.
 Output: a deterministic automaton in HOA v1 with a parity condition. It accepts exactly the words that satisfy the formula:
-the program looks at it before it prints it, as `means` does. With `--outs` it has a header `controllable-AP`, which lists
+the program checks that before it prints it, as `means` does. With `--outs` it has a header `controllable-AP`, which lists
 the propositions that the controller sets, so that `game`, `synth` and `verify` read it.
 
 Example: printf 'G (request -> F grant)' | parsolve automaton --outs grant | parsolve synth",
@@ -190,7 +190,7 @@ Input: an automaton in HOA v1, deterministic, with a parity condition and labels
 reads it, from the files AUTOMATON and FORMULA, or from standard input with a line `--` between them. A header
 `controllable-AP` makes no difference. A proposition that only one of the two names is free in the other.
 Output: `SAME` if the automaton accepts exactly the words that satisfy the formula. Or `DIFFERS`, a line that says which of the
-two takes a word, and the word: a line for each step with the propositions that hold (`-` if none does), a line `loop`, and
+two accepts a word, and the word: a line for each step with the propositions that hold (`-` if none does), a line `loop`, and
 lines that repeat for ever. With `--status` the exit status is 0 for `SAME`, and 10 for `DIFFERS`.
 
 Example: parsolve means examples/traffic-light.hoa examples/traffic-light.ltl
@@ -222,8 +222,8 @@ header, `--outs` names them.
 Output: `REALIZABLE` and a circuit in the ASCII form of AIGER. Its inputs are the propositions that the environment sets,
 its outputs those that the controller sets, and the automaton accepts every run of it, whatever the inputs. Or
 `UNREALIZABLE`, if there is no such controller. With `--small` the circuit has fewer latches and
-gates, and takes more time to find; the program looks at all its runs before it prints the circuit, as `verify` does.
-With `--counter` there is a circuit behind `UNREALIZABLE` too. It plays the environment: its inputs are the propositions that
+gates, and takes more time to find; the program checks all its runs before it prints the circuit, as `verify` does.
+With `--counter` a circuit follows `UNREALIZABLE` too. It plays the environment: its inputs are the propositions that
 the controller sets, its outputs the others, and the automaton accepts no run of it, whatever the controller does.
 
 Example: parsolve synth examples/request-grant.hoa",
@@ -301,7 +301,7 @@ fn small_option<'a>(alloc: Global) -> Result<Arg<'a>, Error> {
     Ok(
         Arg::new(alloc, SMALL)
             .long(SMALL)
-            .help("Print a small circuit, in more time; under it every run is accepted too")
+            .help("Print a small circuit, found in more time; every run of it is accepted too")
             .action(ArgAction::SetTrue)
             .conflicts_with(WORKERS)?
             .conflicts_with(APART)?,
@@ -345,7 +345,7 @@ fn outs_option<'a>(alloc: Global) -> Arg<'a> {
         .long(OUTS)
         .value_name("NAMES")
         .help(
-            "The propositions that the controller sets, names separated by commas, in place of the header",
+            "The propositions that the controller sets, separated by commas, in place of the header; blanks around them don't count",
         )
         .action(ArgAction::Set)
 }
