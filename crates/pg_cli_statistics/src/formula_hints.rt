@@ -41,14 +41,30 @@ const FORMS: [(&[u8], &str); 13] = [
     (b"!=", VALUES),
 ];
 
-/// Whether this byte may stand in a name, or ends a name or an operand in brackets.
-fn ends_operand(byte: u8) -> bool {
-    byte.is_ascii_alphanumeric() || matches!(byte, b'_' | b'.' | b'"' | b')')
+/// The words that stand between operands.
+const INFIXES: [&[u8]; 6] = [b"U", b"R", b"V", b"W", b"M", b"xor"];
+
+/// Whether this byte may stand in a name.
+fn is_inner(byte: u8) -> bool {
+    byte.is_ascii_alphanumeric() || matches!(byte, b'_' | b'.')
 }
 
-/// Whether this byte may begin an operand.
+/// Whether a text begins with a word or a sign that stands between operands.
+fn begins_infix(text: &[u8]) -> bool {
+    let end = text.iter().position(|byte| !is_inner(*byte));
+    let word = text.get(..end.unwrap_or(text.len())).unwrap_or(text);
+    INFIXES.iter().any(|infix| *infix == word) || matches!(text, [b'&' | b'|' | b'^', ..])
+}
+
+/// Whether an operand may end with this byte.
+fn ends_operand(byte: u8) -> bool {
+    is_inner(byte) || matches!(byte, b'"' | b')')
+}
+
+/// Whether an operand may begin with this byte.
 fn begins_operand(byte: u8) -> bool {
-    byte.is_ascii_alphanumeric() || matches!(byte, b'_' | b'.' | b'"' | b'(' | b'!')
+    byte.is_ascii_alphabetic()
+        || matches!(byte, b'_' | b'.' | b'0' | b'1' | b'"' | b'(' | b'!' | b'~')
 }
 
 /// What may help where a formula can't go on.
@@ -62,8 +78,9 @@ pub(crate) fn on_formula(text: &[u8], offset: usize) -> Option<&'static str> {
         (_, []) => Some(END),
         (_, [0x80..=0xFF, ..]) => Some(ASCII),
         (_, [b'[', b'0'..=b'9' | b':', ..]) => Some(BOUNDS),
-        (None, [b'&' | b'|' | b'^' | b'U' | b'R' | b'V' | b'W' | b'M', ..]) => Some(OPERAND),
-        (Some(last), [first, ..]) if ends_operand(*last) && begins_operand(*first) => Some(
+        (None, _) if begins_infix(rest) => Some(OPERAND),
+        (Some(last), [first, ..])
+            if !begins_infix(rest) && ends_operand(*last) && begins_operand(*first) => Some(
             OPERATOR,
         ),
         _ => None,
