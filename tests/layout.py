@@ -96,7 +96,7 @@ def rows_of_map():
         elif names.count(name) > 1:
             yield name, "stands in docs/map.md twice"
         elif line_count(path) != int(lines):
-            yield name, f"has {line_count(path)} lines, and docs/map.md says {lines}: run tests/layout.py --write"
+            yield name, f"has {line_count(path)} lines, and docs/map.md says {lines}: run tests/layout.py"
         else:
             yield name, None
 
@@ -116,7 +116,7 @@ def rows_of_chains():
         yield law, "isn't there, as tests/chains.py says"
     for name, end in chain_rows():
         is_there = re.search(rf"^\| {name} \| .* {re.escape(end)}$", text, re.M)
-        yield f"chain {name}", None if is_there else f"its row doesn't end in {end}: run tests/layout.py --write"
+        yield f"chain {name}", None if is_there else f"its row doesn't end in {end}: run tests/layout.py"
     sections = re.findall(r"^### (\d+)\. (.*?)(?=^##)", text, re.M | re.S)
     for (number, section), (name, chain) in zip(sections, chains.chains().items()):
         listed = {file for file, _ in ROW.findall(section)}

@@ -227,7 +227,7 @@ struct Options<'a> {
     json: bool,
 }
 
-/// The programs that a command wants, if they are to be others than this one.
+/// The programs that work for a command, if `--apart` names one.
 fn programs_of<R: Reach + AllocGlobal>(
     rt: &R,
     command: Command,
@@ -242,7 +242,7 @@ fn programs_of<R: Reach + AllocGlobal>(
     }
 }
 
-/// What is counted of an input, if figures are to be told.
+/// The figures of an input, if they were asked for.
 fn figures_of<R: Reach + AllocGlobal>(
     rt: &R,
     command: Command,
@@ -279,7 +279,7 @@ fn tell_figures<E: Write>(errors: &mut E, is_json: bool, figures: Option<Figures
     }
 }
 
-/// Reads the input of a command, and writes the answer to it, and behind that what is to be noted, and the figures.
+/// Reads the input of a command, writes the answer, and then the notes and the figures.
 fn answer<'a, R: Reach + AllocGlobal, T: Texts, W: Write, E: Write>(
     rt: &R,
     command: Command,
@@ -323,7 +323,7 @@ fn answer<'a, R: Reach + AllocGlobal, T: Texts, W: Write, E: Write>(
 ///
 /// Of a command it returns the first of these faults. `Cli(Listen)`, if its workers are programs and no port can be listened at. `Open`, `Read`,
 /// or for standard input `Cli(Read)`, and `Cli(InputTooLong)`. If outputs are named, `Cli(NoSeparator)`, `Cli(Hoa)`, `Controlled`,
-/// `NoProposition` and `Cli(InputTooLong)`; of `automaton` they come behind the others, but for `Cli(Write)`. `Cli` with a fault of
+/// `NoProposition` and `Cli(InputTooLong)`; of `automaton` they come after the others, except `Cli(Write)`. `Cli` with a fault of
 /// `pg_cli::answer`. `Cli(Write)`. `Cli(OutOfMemory)` can come at any point. Of a worker it returns `Cli` with a fault of `pg_cli::work`.
 pub fn obey<'a, R: Reach + AllocGlobal, T: Texts, W: Write, E: Write>(
     rt: &R,

@@ -18,7 +18,7 @@ pub enum Fault<'a> {
     Read(&'a str),
     /// The outputs are named, and so they are in a header of the automaton.
     Controlled,
-    /// An output of this name is wanted, and no proposition has it.
+    /// `--outs` has this name, and no proposition has it.
     NoProposition(&'a str),
     /// What is said whatever the files are named.
     Cli(CliFault),
@@ -91,7 +91,7 @@ fn note<E: Write>(alloc: Global, errors: &mut E, fault: &Fault, kept: &Kept) {
 }
 
 /// Ends a command line: returns 0 if an answer was written, and otherwise the status of the fault, whose line goes to the error stream, with
-/// notes behind it.
+/// notes after it.
 pub fn end<E: Write>(alloc: Global, errors: &mut E, ended: Result<(), Fault>, kept: &Kept) -> u8
     ensures { result ≡ end_status ended.entry }
 {

@@ -1,4 +1,4 @@
-//! What is to be noted of a fault, behind its line: where it is in a file, and what may help.
+//! Notes on a fault, after its line: where it is in a file, and what may help.
 
 use crate::headers::{Limit, limit_of, read_headers};
 use crate::hints::{first_kind, on_syntax, second_kind};
@@ -128,7 +128,7 @@ fn plain_hint(command: Command, fault: &CliFault) -> Option<Hint> {
             "an automaton has at most 65535 states and 16777216 states times letters"
         }
         CliFault::Untranslated(Untranslated::TooManySteps) => {
-            "the search ended at its limit of steps; a smaller formula may have an automaton within it"
+            "the search reached its limit of steps; try a smaller formula"
         }
         CliFault::Means(MeansFault::TooLarge) => {
             "the product of automaton and formula has at most 16777216 edges"

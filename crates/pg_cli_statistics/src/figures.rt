@@ -57,7 +57,7 @@ struct Sides {
     outputs: Side,
 }
 
-/// Tells how long a piece of work took, one after the other.
+/// A stopwatch for pieces of work, one after another.
 #[derive(Clone, Copy)]
 pub struct Watch {
     last: Duration,
@@ -129,7 +129,7 @@ fn size_in(alloc: Global, text: &[u8]) -> Option<Size> {
     size_of(alloc, &game).ok()
 }
 
-/// What is counted in the one text of a command: if it has two texts, the one before the line `--` and the one behind.
+/// The two texts of a command's one text: those before and after the line `--`. Of a command that reads one, that one and nothing.
 fn both_texts(command: Command, text: &[u8]) -> (&[u8], &[u8]) {
     if !matches!(
         command,

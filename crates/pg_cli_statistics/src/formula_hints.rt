@@ -24,7 +24,7 @@ const OPERATOR: &str =
 
 const END: &str = "the text ends inside a formula";
 
-/// What stands in formulas of other tools.
+/// What formulas of other tools have, and what may help.
 const FORMS: [(&[u8], &str); 13] = [
     (b"-->", ARROWS),
     (b"<--", ARROWS),

@@ -3,10 +3,10 @@
 use pg_hoa_syntax::{Syntax, read_syntax};
 use std::alloc::Global;
 
-/// The mark behind the headers of an automaton.
+/// The mark after the headers of an automaton.
 const BODY: &[u8] = b"--BODY--";
 
-/// What an automaton without states has behind its headers.
+/// What an automaton without states has after its headers.
 const END: &[u8] = b"\n--END--\n";
 
 /// The headers that count, and how much each may count.
@@ -30,7 +30,7 @@ pub(crate) enum Limit {
     Other,
 }
 
-/// The headers of an automaton, with the mark behind them; none where there is no mark.
+/// The headers of an automaton, with the mark after them; none if there is no mark.
 fn headers(text: &[u8]) -> Option<&[u8]> {
     let place = text.windows(BODY.len()).position(|window| window == BODY)?;
     text.get(..place.saturating_add(BODY.len()))
@@ -43,7 +43,7 @@ pub(crate) fn read_headers(alloc: Global, text: &[u8]) -> Option<Syntax> {
     read_syntax(alloc, &stateless).ok()
 }
 
-/// The number that stands in front, behind white space.
+/// The number at the front, after white space.
 fn number_in(text: &[u8]) -> Option<u64> {
     let mut number = None;
     for byte in text.trim_ascii_start() {
@@ -61,7 +61,7 @@ fn number_in(text: &[u8]) -> Option<u64> {
     number
 }
 
-/// The number behind the header of this name, with its colon, where white space stands before it.
+/// The number after the header of this name, with its colon, if white space stands before the header.
 fn counted(headers: &[u8], name: &[u8]) -> Option<u64> {
     let mut before = b' ';
     for (place, byte) in headers.iter().enumerate() {

@@ -1,11 +1,11 @@
-//! What a text looks like that is no text of its kind, and what may help.
+//! What a text looks like if it isn't of the kind that a command reads, and what may help.
 
 use crate::formula_hints::on_formula;
 use pg_cli_words::Command;
 use pg_ltl::read_formula;
 use std::alloc::Global;
 
-/// What a text is of.
+/// The kind of a text.
 #[derive(Clone, Copy)]
 pub(crate) enum Kind {
     Game,
@@ -16,7 +16,7 @@ pub(crate) enum Kind {
     Circuit,
 }
 
-/// What a text can't begin with, whatever it is of, and what that is.
+/// How no text begins that a command reads, and what such a text is.
 const FOREIGN: [(&[u8], &str); 9] = [
     (
         b"\x1f\x8b",
@@ -47,7 +47,7 @@ const FOREIGN: [(&[u8], &str); 9] = [
     (b"UNREALIZABLE", "the answer UNREALIZABLE has no circuit"),
 ];
 
-/// How texts begin, the first that fits, and what they are of.
+/// How texts begin, and their kinds; the first match counts.
 const BEGINNINGS: [(&[u8], Kind); 13] = [
     (b"HOA:", Kind::Automaton),
     (b"aag ", Kind::Circuit),
@@ -64,7 +64,7 @@ const BEGINNINGS: [(&[u8], Kind); 13] = [
     (b"[]", Kind::Formula),
 ];
 
-/// What stands in games of other tools, and how it is rewritten.
+/// What games of other tools have, and what rewrites it.
 const OF_GAMES: [(&[u8], &str); 5] = [
     (
         b"/*",
@@ -94,7 +94,7 @@ const OF_AUTOMATA: [(&[u8], &str); 1] = [(
     "tools/hoa rewrites version 1.1, and headers with dots in their names",
 )];
 
-/// Where a text isn't of the kind that the command reads there.
+/// The hint for a text of another kind than the command reads there.
 fn another(seen: Kind) -> &'static str {
     match seen {
         Kind::Game => "the text looks like a game; measure, solve, check and replay read games",
@@ -109,7 +109,7 @@ fn another(seen: Kind) -> &'static str {
     }
 }
 
-/// What the first text of a command is of.
+/// The kind of a command's first text.
 pub(crate) fn first_kind(command: Command) -> Kind {
     match command {
         Command::Automaton => Kind::Formula,
@@ -123,7 +123,7 @@ pub(crate) fn first_kind(command: Command) -> Kind {
     }
 }
 
-/// What the second text of a command is of that reads two.
+/// The kind of the second text of a command that reads two.
 pub(crate) fn second_kind(command: Command) -> Kind {
     match command {
         Command::Verify { .. } => Kind::Circuit,
@@ -133,7 +133,7 @@ pub(crate) fn second_kind(command: Command) -> Kind {
     }
 }
 
-/// What stands beside the first beginning that the text has.
+/// What the table has for the first of its beginnings that the text has.
 pub(crate) fn beside<T: Copy>(table: &[(&[u8], T)], text: &[u8]) -> Option<T> {
     for (beginning, found) in table {
         if text.starts_with(beginning) {
@@ -159,7 +159,7 @@ fn is_formula(alloc: Global, text: &[u8]) -> bool {
     }
 }
 
-/// What a text looks like that is to be of this kind. A digit begins solutions too, and no automaton.
+/// The kind that a text looks like, where this one is wanted. A digit begins games and solutions, and no automaton.
 fn looks_like(alloc: Global, text: &[u8], wanted: Kind) -> Option<Kind> {
     let trimmed = text.trim_ascii_start();
     match (trimmed, wanted) {
@@ -171,7 +171,7 @@ fn looks_like(alloc: Global, text: &[u8], wanted: Kind) -> Option<Kind> {
     }
 }
 
-/// What a text looks like that is to be of this kind and looks like one of another.
+/// The hint for a text that looks like one of another kind than the one that is wanted.
 fn other_than(alloc: Global, text: &[u8], wanted: Kind) -> Option<&'static str> {
     match (looks_like(alloc, text, wanted)?, wanted) {
         // a formula may begin with any word
@@ -186,7 +186,7 @@ fn other_than(alloc: Global, text: &[u8], wanted: Kind) -> Option<&'static str> 
     }
 }
 
-/// What a text is that no command reads.
+/// The hint for a text that no command reads.
 fn unreadable(text: &[u8]) -> Option<&'static str> {
     if text.trim_ascii().is_empty() {
         return Some("the text is empty");
@@ -199,7 +199,7 @@ fn unreadable(text: &[u8]) -> Option<&'static str> {
     beside(&FOREIGN, text)
 }
 
-/// What may help with a syntax error at this offset of a text that is to be of this kind.
+/// The hint for a syntax error at this offset of a text that should be of this kind.
 pub(crate) fn on_syntax(
     alloc: Global,
     text: &[u8],
