@@ -85,6 +85,7 @@ pub fn tell<E: Write>(errors: &mut E, fault: &Fault) -> u8
 fn note<E: Write>(alloc: Global, errors: &mut E, fault: &Fault, kept: &Kept) {
     match fault {
         Fault::Cli(fault) => FaultNotes::of(alloc, kept, fault).tell(errors),
+        Fault::Open(name, _) => FaultNotes::of_file(alloc, name).tell(errors),
         Fault::NoProposition(name) => FaultNotes::of_name(alloc, kept, name).tell(errors),
         _ => (),
     }

@@ -1,7 +1,7 @@
 //! Notes on a fault, after its line: where it is in a file, and what may help.
 
 use crate::headers::{Limit, limit_of, read_headers};
-use crate::hints::{first_kind, on_syntax, second_kind};
+use crate::hints::{first_kind, is_written_formula, on_syntax, second_kind};
 use crate::kept::{Kept, Text};
 use pg_aiger_reader::ReaderFault;
 use pg_cli_command::{CliFault, Untranslated};
@@ -17,6 +17,9 @@ use std::io::{self, Write};
 
 const BLANKS: &str =
     "--outs leaves out blanks around a name; the header controllable-AP takes such a proposition by its number";
+
+const WRITTEN_FORMULA: &str =
+    "the name looks like a formula; parsolve reads formulas from files or standard input: echo 'G a' | parsolve automaton";
 
 /// A place in a file; lines and columns count from 1, and a column is a character of UTF-8.
 #[derive(Clone, Copy)]
@@ -230,6 +233,15 @@ impl<'a> FaultNotes<'a> {
             {
                 notes.hint = Some(Hint::Said(BLANKS));
             }
+        }
+        notes
+    }
+
+    /// The notes on the name of a file that can't be opened.
+    pub fn of_file(alloc: Global, name: &str) -> FaultNotes<'a> {
+        let mut notes = FaultNotes::none();
+        if is_written_formula(alloc, name.as_bytes()) {
+            notes.hint = Some(Hint::Said(WRITTEN_FORMULA));
         }
         notes
     }

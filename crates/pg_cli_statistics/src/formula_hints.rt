@@ -45,7 +45,7 @@ const FORMS: [(&[u8], &str); 13] = [
 const INFIXES: [&[u8]; 6] = [b"U", b"R", b"V", b"W", b"M", b"xor"];
 
 /// Whether this byte may stand in a name.
-fn is_inner(byte: u8) -> bool {
+pub(crate) fn is_inner(byte: u8) -> bool {
     byte.is_ascii_alphanumeric() || matches!(byte, b'_' | b'.')
 }
 

@@ -1,6 +1,6 @@
 //! What a text looks like if it isn't of the kind that a command reads, and what may help.
 
-use crate::formula_hints::on_formula;
+use crate::formula_hints::{is_inner, on_formula};
 use pg_cli_words::Command;
 use pg_ltl::read_formula;
 use std::alloc::Global;
@@ -157,6 +157,11 @@ fn is_formula(alloc: Global, text: &[u8]) -> bool {
         Ok((_names, formula)) => formula.nodes.len() > 1,
         Err(_) => false,
     }
+}
+
+/// Whether the name of a file is a formula with an operator, and has a byte that no name of a proposition has.
+pub(crate) fn is_written_formula(alloc: Global, name: &[u8]) -> bool {
+    name.iter().any(|byte| !is_inner(*byte)) && is_formula(alloc, name)
 }
 
 /// The kind that a text looks like, where this one is wanted. A digit begins games and solutions, and no automaton.
