@@ -12,7 +12,7 @@ Whoever wants to believe what is proved reads the believed modules: the files of
   docs/promises.md, whose first table names those that the gate tries;
 - five crates of the kit are used where the product is to stand on them, and the README says that they are trusted.
 
-    tests/layout.py    mends both documents as far as that needs no words: numbers of lines, files that are gone or new, the file of a
+    tests/layout.py    corrects both documents as far as that needs no words: numbers of lines, files that are gone or new, the file of a
                        definition that has moved
 """
 import argparse
