@@ -173,7 +173,7 @@ class Copy:
 
 
 RIGHT = (0, "solve two words\nthe input\n", "", [])
-STALE = "parsolve: crates/parsolve/out/parsolve isn't built of these sources, and there is no release/bin/parsolve\n"
+STALE = "parsolve: crates/parsolve/out/parsolve wasn't built from these sources, and there is no release/bin/parsolve\n"
 UNBUILT = "parsolve: there is no crates/parsolve/out/parsolve, and there is no release/bin/parsolve\n"
 HOW = "parsolve: ./build proves and builds it\n"
 
@@ -365,7 +365,7 @@ def released(copy):
     copy.write(copy.source("low_tests"), "changed")
     runs_still = copy.use()
     copy.write(copy.source("left"), "changed")
-    why = "parsolve: there is no crates/parsolve/out/parsolve, and release/bin/parsolve isn't built of these sources\n"
+    why = "parsolve: there is no crates/parsolve/out/parsolve, and release/bin/parsolve wasn't built from these sources\n"
     return runs == runs_still == (0, "released " + RIGHT[1], "", []) and refused(copy, why)
 
 
