@@ -297,6 +297,18 @@ def memory(a, b, dice):
     yield from named(game)
 
 
+def longway(a, b, dice):
+    """a vertices in a row, behind which Odd may go back to the first over each of b odd priorities: its best play goes all the way for each"""
+    game = {("row", i): (0, 1, [("row", i + 1) if i + 1 < a else ("v", 0)]) for i in range(a)}
+    for i in range(b):
+        game["v", i] = 0, 1, [("w", i), ("v", i + 1) if i + 1 < b else "end"]
+        game["w", i] = 2 * i + 1, 1, [("z", i)]
+        game["z", i] = 2 * i + 2, 0, [("row", 0)]
+    game["end"] = 2 * b + 1, 0, ["stop"]
+    game["stop"] = 2 * b + 2, 0, ["stop"]
+    yield from named(game)
+
+
 def cells(a):
     """Where a cell stands, of four in each of a layers behind two vertices that the layers share; nowhere outside of the layers."""
     return lambda cell, layer: [2 + 4 * layer + cell] if 0 <= layer < a else []
@@ -476,7 +488,7 @@ def switches(a, b, dice):
 
 FAMILIES = {it.__name__: it for it in (settled, climb, climbers, jurdzinski, ladder, clique, recladder, elevator, sparse, random,
                                        chain, grid, wide, hubs, loops, repeats, hard, priorities, steps, spread, two_ladders,
-                                       maze, flat_hub, rising_hub, friedmann, twice, path, memory, budget, even, rounds, looks, regions,
+                                       maze, flat_hub, rising_hub, friedmann, twice, path, memory, longway, budget, even, rounds, looks, regions,
                                        lists, gadget, ring, few, bipartite, bipartite_wide, geometric, switches)}
 
 # those that Even wins without a choice

@@ -71,6 +71,8 @@ twice 2560 0
 path 64000 0
 ring 60000 1000
 memory 1280 0
+longway 400 40
+longway 8000 250
 budget 200 0
 even 200 0
 automaton 2000 3 2

@@ -12,26 +12,33 @@ use pg_map_ranks::Ladder;
 
 /// Whether `w` needs no claim, or has one of at least a rank before the end.
 #[inline]
-fn backs(claims: &Claims, known: &[bool], low: u32, end: u32, w: Vertex) -> bool
+fn backs(claims: &Claims, known: &[bool], guess: usize, low: u32, end: u32, w: Vertex) -> bool
     requires { w < length known.now }
     ensures { OnTrue result (Backs claims.now known.now low end w) }
 {
     if low == 0 {
         return true;
     }
-    match place_from(claims, low, w) {
+    match place_from(claims, guess, low, w) {
         Some(place) if place < end => true,
         _ => known[w.0 as usize],
     }
 }
 
 /// Whether one of the vertices does.
-fn one_backs(claims: &Claims, known: &[bool], low: u32, end: u32, vertices: &[Vertex]) -> bool
+fn one_backs(
+    claims: &Claims,
+    known: &[bool],
+    guess: usize,
+    low: u32,
+    end: u32,
+    vertices: &[Vertex],
+) -> bool
     requires { All (λ w. w < length known.now) vertices.now }
     ensures { OnTrue result (Any (Backs claims.now known.now low end) vertices.now) }
 {
     for w in vertices {
-        if backs(claims, known, low, end, *w) {
+        if backs(claims, known, guess, low, end, *w) {
             return true;
         }
     }
@@ -39,12 +46,19 @@ fn one_backs(claims: &Claims, known: &[bool], low: u32, end: u32, vertices: &[Ve
 }
 
 /// Whether all do.
-fn all_back(claims: &Claims, known: &[bool], low: u32, end: u32, vertices: &[Vertex]) -> bool
+fn all_back(
+    claims: &Claims,
+    known: &[bool],
+    guess: usize,
+    low: u32,
+    end: u32,
+    vertices: &[Vertex],
+) -> bool
     requires { All (λ w. w < length known.now) vertices.now }
     ensures { OnTrue result (All (Backs claims.now known.now low end) vertices.now) }
 {
     for w in vertices {
-        if !backs(claims, known, low, end, *w) {
+        if !backs(claims, known, guess, low, end, *w) {
             return false;
         }
     }
@@ -52,12 +66,13 @@ fn all_back(claims: &Claims, known: &[bool], low: u32, end: u32, vertices: &[Ver
 }
 
 /// Checks a claim: at its place stands the priority of its vertex, and all successors back it where Even owns that, or one where Odd
-/// does.
+/// does. These claims are sought around a guess of how many of the same vertex stand before them.
 pub(crate) fn is_good_claim<G: Lines>(
     lines: &G,
     ladder: &Ladder,
     claims: &Claims,
     known: &[bool],
+    guess: usize,
     claim: Claim,
 ) -> bool
     requires { AreWithin (length known.now) (G.line lines.now) }
@@ -76,7 +91,7 @@ pub(crate) fn is_good_claim<G: Lines>(
     let low = ladder.low_of(priority, claim.rank);
     let successors = lines.successors(v);
     match lines.owner(v) {
-        Player::Even => all_back(claims, known, low, span.end, successors),
-        Player::Odd => one_backs(claims, known, low, span.end, successors),
+        Player::Even => all_back(claims, known, guess, low, span.end, successors),
+        Player::Odd => one_backs(claims, known, guess, low, span.end, successors),
     }
 }

@@ -15,13 +15,16 @@ use pg_check_order::are_nested;
 use pg_map::{Lines, Measures};
 use pg_map_ranks::{Ladder, RankMap};
 
-/// Checks each claim.
+/// Checks each claim. As many claims of a successor may stand before the one that it needs as stand before it.
 fn are_good_claims<G: Lines>(lines: &G, ladder: &Ladder, claims: &Claims, known: &[bool]) -> bool
     requires { AreWithin (length known.now) (G.line lines.now) }
     ensures { OnTrue result (AreGoodClaims (G.line lines.now) ladder.now claims.now known.now) }
 {
-    for claim in &claims.claims {
-        if !is_good_claim(lines, ladder, claims, known, *claim) {
+    for number in 0..claims.claims.len() {
+        let claim = claims.claims[number];
+        let first = claims.firsts.get(claim.vertex.0 as usize).copied();
+        let guess = number.saturating_sub(first.unwrap_or(0) as usize);
+        if !is_good_claim(lines, ladder, claims, known, guess, claim) {
             return false;
         }
     }
@@ -35,7 +38,7 @@ fn are_ranks_claimed(claims: &Claims, known: &[bool], ranks: &[u32]) -> bool
     ensures { OnTrue result (AreRanksClaimed claims.now known.now ranks.now) }
 {
     for v in 0..ranks.len() {
-        if ranks[v] > 0 && !known[v] && place_from(claims, ranks[v], Vertex(v as u32)).is_none() {
+        if ranks[v] > 0 && !known[v] && place_from(claims, 0, ranks[v], Vertex(v as u32)).is_none() {
             return false;
         }
     }

@@ -25,24 +25,36 @@ pub struct Claims {
     pub spans: Vec<Span>,
 }
 
-/// Where the first claim of `w` of at least a rank stands, if the claims stand as they should: who asks has to look.
-fn seek(claims: &[Claim], first: usize, w: Vertex, low: u32) -> usize {
+/// Where the first claim of `w` of at least a rank stands, if the claims stand as they should: who asks has to look. It is sought around a
+/// guess of how many of them stand before it.
+fn seek(claims: &[Claim], first: usize, guess: usize, w: Vertex, low: u32) -> usize {
     if first >= claims.len() || claims[first].rank >= low {
         return first;
     }
     let rest = &claims[first..];
-    first + rest.partition_point(|claim| claim.vertex == w && claim.rank < low)
+    let is_less = |claim: &Claim| claim.vertex == w && claim.rank < low;
+    let mut reach = 1usize;
+    for _ in 0..16 {
+        let from = guess.saturating_sub(reach).min(rest.len());
+        let to = guess.saturating_add(reach).min(rest.len());
+        let is_behind = from == 0 || is_less(&rest[from - 1]);
+        if is_behind && (to == rest.len() || !is_less(&rest[to])) {
+            return first + from + rest[from..to].partition_point(is_less);
+        }
+        reach = reach.saturating_mul(4);
+    }
+    first + rest.partition_point(is_less)
 }
 
 /// The place of a claim of `w` of at least a rank.
 #[inline]
-pub(crate) fn place_from(claims: &Claims, low: u32, w: Vertex) -> Option<u32>
+pub(crate) fn place_from(claims: &Claims, guess: usize, low: u32, w: Vertex) -> Option<u32>
     ensures { IfSome result (IsClaimFrom claims.now low w) }
 {
-    let first = claims.firsts.get(w.0 as usize)?;
+    let first = *claims.firsts.get(w.0 as usize)? as usize;
     let found = claims
         .claims
-        .get(seek(&claims.claims, *first as usize, w, low))?;
+        .get(seek(&claims.claims, first, guess, w, low))?;
     if found.vertex == w && found.rank >= low {
         Some(found.place)
     } else {

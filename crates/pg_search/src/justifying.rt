@@ -10,6 +10,7 @@
 use crate::asked::{Asked, Levels};
 use crate::attracting::attract;
 use crate::board::{Board, FIRST, LOST, WON};
+use crate::cuts::Cuts;
 use crate::leveling::set_by_levels;
 use pg_search_rows::{NONE, RowClaim, Side, ZEROS, at, count, is_marked, put};
 use std::alloc::{AllocError, Global};
@@ -29,69 +30,110 @@ struct Justifying {
     board: Board,
     is_settled: Vec<bool>,
     beyond: Vec<Beyond>,
+    cuts: Cuts,
+    /// What a claim may lead to.
+    needed: Vec<Asked>,
 }
 
 impl Justifying {
-    /// What a claim needs of a successor: nothing of one that is settled, or that hasn't such a row.
-    fn need(&self, side: &Side, w: u32, low: u32) -> Option<Asked> {
-        let row = side.row(w);
-        if is_marked(&self.is_settled, w) || side.rows.is_under(row, low) {
-            return None;
-        }
-        Some(Asked {
-            vertex: w,
-            row: side.rows.first_from(low, row),
-        })
-    }
-
-    /// Whether a successor lets a claim of the opponent do without others of its level: best one that is settled.
-    fn leads_out(
-        &mut self,
-        side: &Side,
-        node: u32,
-        successors: &[u32],
-        low: u32,
-        level: u32,
-    ) -> Result<bool, AllocError> {
-        for w in successors {
-            if is_marked(&self.is_settled, *w) && !side.rows.is_under(side.row(*w), low) {
-                return Ok(true);
-            }
-        }
-        for w in successors {
-            if let Some(asked) = self.need(side, *w, low)
-                && is_beyond(side, asked, level)
-            {
-                self.beyond.push(Beyond { node, asked })?;
-                return Ok(true);
-            }
-        }
-        Ok(false)
+    /// What a claim of a level needs of a successor that isn't settled; nothing of one that hasn't such a row.
+    #[inline(always)]
+    fn need(&mut self, side: &Side, w: u32, low: u32, level: u32) -> Option<Asked> {
+        let row = if level == ALL {
+            side.row(w)
+        } else {
+            self.cuts.row(side, w, level)
+        };
+        let row = side.rows.first_from(low, row)?;
+        Some(Asked { vertex: w, row })
     }
 
     /// Lets the node of a claim lead to those of the claims of a level that it needs. They are put to the board.
     fn lead(&mut self, side: &mut Side, node: u32, level: u32) -> Result<(), AllocError> {
         let claim = self.board.claim(node);
         let state = side.state(claim.vertex);
-        let is_mine = state.is_mine();
         let low = side.rows.low(claim.row, state.priority());
-        let successors = side.successors(claim.vertex);
-        self.board.begin(state.priority(), is_mine)?;
-        if low == ZEROS || !is_mine && self.leads_out(side, node, successors, low, level)? {
+        self.board.begin(state.priority(), state.is_mine())?;
+        if low == ZEROS {
             return self.board.lead_to(WON);
         }
-        let mut end = if is_mine { WON } else { LOST };
+        let successors = side.successors(claim.vertex);
+        if state.is_mine() {
+            self.lead_to_all(side, node, successors, low, level)
+        } else {
+            self.lead_to_some(side, node, successors, low, level)
+        }
+    }
+
+    /// Lets it lead to those of all successors.
+    fn lead_to_all(
+        &mut self,
+        side: &Side,
+        node: u32,
+        successors: &[u32],
+        low: u32,
+        level: u32,
+    ) -> Result<(), AllocError> {
+        let mut end = WON;
         for w in successors {
-            if let Some(asked) = self.need(side, *w, low) {
-                if is_beyond(side, asked, level) {
+            if is_marked(&self.is_settled, *w) {
+                if side.rows.is_under(side.row(*w), low) {
+                    self.board.lead_to(LOST)?;
+                }
+                continue;
+            }
+            match self.need(side, *w, low, level) {
+                None => self.board.lead_to(LOST)?,
+                Some(asked) if is_beyond(side, asked, level) => {
                     self.beyond.push(Beyond { node, asked })?;
-                } else {
+                }
+                Some(asked) => {
                     end = self.board.node(asked)?;
                     self.board.lead_to(end)?;
                 }
-            } else if is_mine && side.rows.is_under(side.row(*w), low) {
-                self.board.lead_to(LOST)?;
             }
+        }
+        if end < FIRST {
+            self.board.lead_to(end)?;
+        }
+        Ok(())
+    }
+
+    /// Lets it lead to those of some successors: of one that lets it do without others of its level, if there is one; best one that is
+    /// settled.
+    fn lead_to_some(
+        &mut self,
+        side: &Side,
+        node: u32,
+        successors: &[u32],
+        low: u32,
+        level: u32,
+    ) -> Result<(), AllocError> {
+        self.needed.clear();
+        let mut out = None;
+        for w in successors {
+            if is_marked(&self.is_settled, *w) {
+                if !side.rows.is_under(side.row(*w), low) {
+                    return self.board.lead_to(WON);
+                }
+            } else if out.is_none()
+                && let Some(asked) = self.need(side, *w, low, level)
+            {
+                if is_beyond(side, asked, level) {
+                    out = Some(asked);
+                } else {
+                    self.needed.push(asked)?;
+                }
+            }
+        }
+        if let Some(asked) = out {
+            self.beyond.push(Beyond { node, asked })?;
+            return self.board.lead_to(WON);
+        }
+        let mut end = LOST;
+        for asked in &self.needed {
+            end = self.board.node(*asked)?;
+            self.board.lead_to(end)?;
         }
         if end < FIRST {
             self.board.lead_to(end)?;
@@ -134,18 +176,6 @@ impl Justifying {
         Ok(Some(self.board.order(alloc, &played.winners, &is_kept)?))
     }
 
-    /// Claims of the own rows of the vertices that aren't settled.
-    fn unsettled(&self, alloc: Global, side: &Side) -> Result<Vec<Asked>, AllocError> {
-        let mut open = Vec::new(alloc);
-        for vertex in 0..side.len() {
-            if !is_marked(&self.is_settled, vertex) {
-                let row = side.row(vertex);
-                open.push(Asked { vertex, row })?;
-            }
-        }
-        Ok(open)
-    }
-
     /// The claims of what isn't settled, level by level; the greatest level first. None where winners aren't found.
     fn play_levels(
         &mut self,
@@ -173,6 +203,18 @@ impl Justifying {
     }
 }
 
+/// Claims of the own rows of the vertices that aren't settled.
+fn unsettled(alloc: Global, side: &Side, is_settled: &[bool]) -> Result<Vec<Asked>, AllocError> {
+    let mut open = Vec::new(alloc);
+    for vertex in 0..side.len() {
+        if !is_marked(is_settled, vertex) {
+            let row = side.row(vertex);
+            open.push(Asked { vertex, row })?;
+        }
+    }
+    Ok(open)
+}
+
 /// Whether a claim isn't of a level.
 fn is_beyond(side: &Side, asked: Asked, level: u32) -> bool {
     level != ALL && side.rows.node(asked.row).priority != level
@@ -186,15 +228,17 @@ pub fn finish(
 ) -> Result<Option<Vec<RowClaim>>, AllocError> {
     let mut is_settled = vec![in alloc; true; side.len() as usize]?;
     let mut order = attract(side, alloc, &mut is_settled)?;
+    let open = unsettled(alloc, side, &is_settled)?;
+    if open.is_empty() {
+        return Ok(Some(order));
+    }
     let mut justifying = Justifying {
         board: Board::new(alloc, side.len())?,
         is_settled,
         beyond: Vec::new(alloc),
+        cuts: Cuts::new(alloc, side.len())?,
+        needed: Vec::new(alloc),
     };
-    let open = justifying.unsettled(alloc, side)?;
-    if open.is_empty() {
-        return Ok(Some(order));
-    }
     let mut levels = Levels::new(alloc, side)?;
     let Some(shown) = justifying.play(alloc, side, &open, ALL, &mut levels)? else {
         return Ok(None);
@@ -203,7 +247,7 @@ pub fn finish(
     for claim in &shown {
         put(&mut justifying.is_settled, claim.vertex, true);
     }
-    let open = justifying.unsettled(alloc, side)?;
+    let open = unsettled(alloc, side, &justifying.is_settled)?;
     let Justifying {
         board,
         is_settled,
@@ -212,7 +256,7 @@ pub fn finish(
     if !is_least && !set_by_levels(side, alloc, &open, is_settled, board)? {
         return Ok(None);
     }
-    for claim in &justifying.unsettled(alloc, side)? {
+    for claim in &unsettled(alloc, side, &justifying.is_settled)? {
         levels.ask(side, *claim)?;
     }
     if !justifying.play_levels(alloc, side, &mut levels, &mut order)? {

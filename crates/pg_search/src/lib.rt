@@ -5,6 +5,7 @@
 mod asked;
 mod attracting;
 mod board;
+mod cuts;
 mod exact;
 mod greatest;
 mod justifying;

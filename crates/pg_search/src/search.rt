@@ -34,6 +34,8 @@ pub fn find(
             return Ok(Some(ways.into_claims()));
         }
         side.clear(alloc)?;
+        set_exactly(side, alloc, &mut None)?;
+        return finish(side, alloc, true);
     }
     if !is_swept {
         set_exactly(side, alloc, &mut None)?;

@@ -143,7 +143,13 @@ impl Rows {
         if one == two {
             return self.node(row).depth < self.node(other).depth;
         }
-        let (x, y) = (self.node(one), self.node(two));
+        self.is_before(one, two)
+    }
+
+    /// Whether a row is less than another, where they agree but for their last components.
+    #[inline(always)]
+    fn is_before(&self, row: u32, other: u32) -> bool {
+        let (x, y) = (self.node(row), self.node(other));
         if x.priority != y.priority {
             x.priority < y.priority
         } else {
@@ -151,9 +157,23 @@ impl Rows {
         }
     }
 
-    /// The first row on the way to one that is at least another, as that one is.
-    pub fn first_from(&self, low: u32, row: u32) -> u32 {
-        self.parting(low, row).1
+    /// The first row on the way to one that is at least another; none where that one isn't.
+    #[inline(always)]
+    pub fn first_from(&self, low: u32, row: u32) -> Option<u32> {
+        if row == low || self.node(row).parent == low {
+            return Some(low);
+        }
+        self.find_first_from(low, row)
+    }
+
+    fn find_first_from(&self, low: u32, row: u32) -> Option<u32> {
+        let (one, two) = self.parting(low, row);
+        let is_enough = if one == two {
+            self.node(low).depth <= self.node(row).depth
+        } else {
+            self.is_before(one, two)
+        };
+        if is_enough { Some(two) } else { None }
     }
 
     /// The first row on the way to one that stands behind another on that way.
