@@ -68,7 +68,10 @@ fn serves<G: Lines>(map: &MeasureMap, lines: &G, v: Vertex, w: Vertex) -> bool {
 
 /// Whether no odd priority is greater than this one, which is odd too.
 fn is_greatest(bounds: &Bounds, priority: u32) -> bool {
-    bounds.pairs().first().is_some_and(|bound| bound.0 == priority)
+    bounds
+        .pairs()
+        .first()
+        .is_some_and(|bound| bound.0 == priority)
 }
 
 impl Queue {
@@ -130,7 +133,11 @@ impl Queue {
         if !is_greatest(map.bounds(), lines.priority(v)) {
             self.defer(v);
         }
-        if !lines.successors(v).iter().all(|w| serves(map, lines, v, *w)) {
+        if !lines
+            .successors(v)
+            .iter()
+            .all(|w| serves(map, lines, v, *w))
+        {
             self.add(v);
         }
     }
