@@ -1,4 +1,3 @@
 -- What mirrors code: contracts of private functions cite it, and no definition that a reader has to believe does.
 pub mod Lifters
-pub mod Zeros
 pub mod Watches

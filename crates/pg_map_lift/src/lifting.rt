@@ -43,14 +43,14 @@ impl<G: Lines + Drop> Model for Lifter<G> {
         l.watch.is_on l.watch.risen.items };
 }
 
-/// Lets each of the lines wait; answers how many edges they have.
-fn add_all<G: Lines>(queue: &mut Queue, lines: &G, vertices: u32) -> usize {
+/// Lets the lines wait; answers how many edges they have.
+fn begin_all<G: Lines>(queue: &mut Queue, map: &MeasureMap, lines: &G) -> usize {
     let mut edges = 0usize;
-    for number in (0..vertices).rev() {
+    for number in (0..map.len()).rev() {
         let v = Vertex(number);
         if lines.holds(v) {
             edges = edges.saturating_add(lines.successors(v).len());
-            queue.add(v);
+            queue.begin(map, lines, v);
         }
     }
     edges
@@ -186,7 +186,7 @@ impl<G: Lines + Drop> Lifter<G> {
         let vertices = map.len();
         let mut queue = Queue::new(alloc, vertices)?;
         let mut predecessors = Predecessors::new(alloc, vertices)?;
-        predecessors.reserve(add_all(&mut queue, &lines, vertices))?;
+        predecessors.reserve(begin_all(&mut queue, &map, &lines))?;
         let watch = Watch::new(alloc, vertices)?;
         Ok(Lifter {
             lines,
@@ -357,6 +357,6 @@ impl Lifter<Part> {
     {
         self.watch.is_on = false;
         self.lines.put(v, line);
-        self.queue.add(v);
+        self.queue.begin(&self.map, &self.lines, v);
     }
 }

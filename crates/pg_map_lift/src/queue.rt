@@ -3,6 +3,7 @@
 use crate::predecessors::Predecessors;
 use pg_arena::{Player, Vertex};
 use pg_map::{Lines, MeasureMap};
+use pg_measure::Bounds;
 use std::alloc::{AllocError, Global};
 use std::mem;
 
@@ -65,6 +66,14 @@ fn serves<G: Lines>(map: &MeasureMap, lines: &G, v: Vertex, w: Vertex) -> bool {
     v.0 < map.len() && w.0 < map.len() && lines.holds(v) && map.serves(lines, v, w)
 }
 
+/// Whether no odd priority is greater than this one, which is odd too.
+fn is_greatest(bounds: &Bounds, priority: u32) -> bool {
+    bounds
+        .pairs()
+        .first()
+        .is_some_and(|bound| bound.0 == priority)
+}
+
 impl Queue {
     /// No vertex waits, of those below `count`.
     pub fn new(alloc: Global, count: u32) -> Result<Queue, AllocError> {
@@ -95,6 +104,41 @@ impl Queue {
             self.next.push(v);
         } else {
             self.stack.push(v);
+        }
+    }
+
+    /// Whether a vertex waits.
+    fn waits(&self, v: Vertex) -> bool {
+        match self.notes.get(v.0 as usize) {
+            Some(note) => note.waits,
+            None => false,
+        }
+    }
+
+    /// Keeps a vertex that is added in this generation for the next one.
+    fn defer(&mut self, v: Vertex) {
+        let generation = self.generation;
+        if let Some(note) = self.notes.get_mut(v.0 as usize) {
+            note.generation = generation;
+            note.lifts = LIFTS;
+        }
+    }
+
+    /// Lets a new vertex wait, unless each of its successors serves it. Those of the greatest odd priority, which climb farthest, come
+    /// first: the others wait for the next generation.
+    pub(crate) fn begin<G: Lines>(&mut self, map: &MeasureMap, lines: &G, v: Vertex) {
+        if v.0 >= map.len() || !lines.holds(v) {
+            return;
+        }
+        if !is_greatest(map.bounds(), lines.priority(v)) {
+            self.defer(v);
+        }
+        if !lines
+            .successors(v)
+            .iter()
+            .all(|w| serves(map, lines, v, *w))
+        {
+            self.add(v);
         }
     }
 
@@ -167,7 +211,23 @@ impl Queue {
         None
     }
 
-    /// Lets those wait that a vertex, which rose, no longer serves: all of Odd's, and of Even's those that none was found to serve.
+    /// Lets a vertex wait if its successor, which rose, no longer serves it; where Even owns it, only if none was found to serve it.
+    fn follow<G: Lines>(&mut self, map: &MeasureMap, lines: &G, v: Vertex, risen: Vertex) {
+        if self.waits(v) || !lines.holds(v) || serves(map, lines, v, risen) {
+            return;
+        }
+        let last = lines.successors(v).get(self.stop(v)).copied();
+        let is_served = match last {
+            Some(w) => lines.owner(v) == Player::Even && serves(map, lines, v, w),
+            None => false,
+        };
+        if !is_served {
+            self.add(v);
+        }
+    }
+
+    /// Lets those wait that a vertex, which rose, no longer serves. It comes last if it leads to itself, and so first in the queue:
+    /// it is to climb before others follow it.
     pub(crate) fn rise<G: Lines>(
         &mut self,
         map: &MeasureMap,
@@ -176,18 +236,16 @@ impl Queue {
         x: Vertex,
     ) {
         self.count(x);
+        let mut follows_itself = false;
         for u in predecessors.of(x) {
-            if !lines.holds(*u) || serves(map, lines, *u, x) {
-                continue;
+            if *u == x {
+                follows_itself = true;
+            } else {
+                self.follow(map, lines, *u, x);
             }
-            let last = lines.successors(*u).get(self.stop(*u)).copied();
-            let is_served = match last {
-                Some(w) => lines.owner(*u) == Player::Even && serves(map, lines, *u, w),
-                None => false,
-            };
-            if !is_served {
-                self.add(*u);
-            }
+        }
+        if follows_itself {
+            self.follow(map, lines, x, x);
         }
     }
 }
