@@ -38,7 +38,10 @@ fn are_ranks_claimed(claims: &Claims, known: &[bool], ranks: &[u32]) -> bool
     ensures { OnTrue result (AreRanksClaimed claims.now known.now ranks.now) }
 {
     for v in 0..ranks.len() {
-        if ranks[v] > 0 && !known[v] && place_from(claims, 0, ranks[v], Vertex(v as u32)).is_none() {
+        if ranks[v] > 0
+            && !known[v]
+            && place_from(claims, 0, ranks[v], Vertex(v as u32)).is_none()
+        {
             return false;
         }
     }
