@@ -124,22 +124,15 @@ impl Queue {
         }
     }
 
-    /// Lets a new vertex wait, unless each of its successors serves it. Those of the greatest odd priority, which climb farthest, come
-    /// first: the others wait for the next generation.
+    /// Lets a new vertex wait, for the next generation unless its priority is the greatest odd one: those climb farthest, and come first.
     pub(crate) fn begin<G: Lines>(&mut self, map: &MeasureMap, lines: &G, v: Vertex) {
-        if v.0 >= map.len() || !lines.holds(v) {
+        if !lines.holds(v) {
             return;
         }
         if !is_greatest(map.bounds(), lines.priority(v)) {
             self.defer(v);
         }
-        if !lines
-            .successors(v)
-            .iter()
-            .all(|w| serves(map, lines, v, *w))
-        {
-            self.add(v);
-        }
+        self.add(v);
     }
 
     /// Takes the last vertex of this generation; where none is left of it, the last of the next one, which begins then.
