@@ -6,12 +6,11 @@ ghost use Rattle.pg_arena.specs.Games.{HasParityOf};
 ghost use Rattle.pg_check.specs.Soundness.{IsSoundSolution};
 ghost use Rattle.pg_check.specs.Mirrors.Orders.{AllHaveParityOf, IsAnyChoice};
 
-use crate::order::{Order, height};
+use crate::order::Order;
 use crate::shown::is_shown;
 use pg_arena::{Game, Player, Vertex};
-use pg_check_order::Span;
-use pg_search_components::{at, count, put};
-use pg_search_winners::{Graph, Winners, find_winners};
+use pg_search_components::at;
+use pg_search_winners::{Graph, WinningOrder, find_order};
 use pg_text::Solution;
 use std::alloc::{AllocError, Global};
 
@@ -83,44 +82,26 @@ fn won_by(alloc: Global, game: &Game, winner: Player) -> Result<Solution, AllocE
     Ok(solution)
 }
 
-/// Gives vertices places one after another, from a first one on.
-fn place_from(first: u32, vertices: &[u32], places: &mut [u32]) {
-    let mut place = first;
-    for v in vertices {
-        put(places, *v, place);
-        place = place.saturating_add(1);
-    }
-}
-
-/// The solution of winners that were found.
-fn solved_by(alloc: Global, game: &Game, winners: &Winners) -> Result<Ordered, AllocError>
+/// The solution of winners that were found, by their order.
+fn solved_by(alloc: Global, game: &Game, found: WinningOrder) -> Result<Ordered, AllocError>
     ensures { IfOk result (λ o. length o.solution ≡ length game.now) }
 {
-    let split = count(winners.of_even.len());
-    let mut places = vec![in alloc; 0; game.len()]?;
-    place_from(0, &winners.of_even, &mut places);
-    place_from(split, &winners.of_odd, &mut places);
-    let nothing = Span {
-        priority: 0,
-        end: 0,
-    };
-    let mut spans = vec![in alloc; nothing; game.len()]?;
+    let WinningOrder {
+        places,
+        spans,
+        split,
+        choices,
+    } = found;
     let mut solution = Solution::new(alloc, game)?;
     for number in 0..game.len() as u32 {
         let v = Vertex(number);
-        let winner = match winners.winner.get(number as usize) {
-            Some(winner) => *winner,
-            None => Player::Even,
+        let winner = if at(&places, number) < split {
+            Player::Even
+        } else {
+            Player::Odd
         };
-        let choice = (game.owner(v) == winner).then_some(Vertex(at(&winners.choice, number)));
+        let choice = (game.owner(v) == winner).then_some(Vertex(at(&choices, number)));
         solution.set(v, winner, choice);
-        let place = at(&places, number);
-        if (place as usize) < spans.len() {
-            spans[place as usize] = Span {
-                priority: height(game, &solution, v),
-                end: place.saturating_add(at(&winners.span, number)),
-            };
-        }
     }
     let order = Order { places, spans };
     Ok(Ordered {
@@ -135,9 +116,7 @@ fn propose(alloc: Global, game: &Game) -> Result<Ordered, AllocError>
     ensures { IfOk result (λ o. length o.solution ≡ length game.now) }
 {
     let graph = Graph::of(alloc, game)?;
-    let winners = find_winners(alloc, &graph)?;
-    drop(graph);
-    solved_by(alloc, game, &winners)
+    solved_by(alloc, game, find_order(alloc, graph)?)
 }
 
 /// Finds a sound solution of a game; the contract doesn't say which one. It has a choice at a vertex if and only if the

@@ -21,6 +21,13 @@ pub struct Graph {
     loops: Vec<u32>,
 }
 
+/// A graph of so many vertices is large, an edge over so many leads far, and one in so many vertices is a sample.
+const LARGE: u32 = 1 << 19;
+
+const FAR: u32 = 1 << 14;
+
+const SAMPLE: u32 = 64;
+
 /// What tells where a row begins and who owns it.
 #[inline(always)]
 fn row_of(offset: u32, owner: Player) -> u32 {
@@ -144,13 +151,39 @@ impl Graph {
             self.predecessors.count(*w);
         }
         self.predecessors.make_room()?;
+        let middle = if self.is_scattered() { all / 2 } else { 0 };
+        self.put_predecessors(middle, all);
+        self.put_predecessors(0, middle);
+        Ok(())
+    }
+
+    /// Puts the predecessors of the vertices from one to another into their rows.
+    fn put_predecessors(&mut self, from: u32, to: u32) {
+        if from == to {
+            return;
+        }
         for v in (0..self.len()).rev() {
             for edge in self.row(v)..self.row(v.saturating_add(1)) {
                 let w = at(&self.successors, edge);
-                self.predecessors.put(w, v);
+                if (from..to).contains(&w) {
+                    self.predecessors.put(w, v);
+                }
             }
         }
-        Ok(())
+    }
+
+    /// Whether the graph is large, and most edges lead far in memory. Then rows of predecessors are filled half by half, since the
+    /// processor keeps track of only so many pages of memory at once.
+    fn is_scattered(&self) -> bool {
+        let sampled = self.len() / SAMPLE;
+        let (mut edges, mut far) = (0usize, 0usize);
+        for number in 0..sampled {
+            let v = number.saturating_mul(SAMPLE);
+            let row = self.successors(v);
+            edges = edges.saturating_add(row.len());
+            far = far.saturating_add(row.iter().filter(|w| v.abs_diff(**w) >= FAR).count());
+        }
+        self.len() >= LARGE && far > edges / 2
     }
 
     /// Where the row of a vertex begins.
@@ -163,6 +196,11 @@ impl Graph {
     #[inline(always)]
     pub fn len(&self) -> u32 {
         count(self.priorities.len())
+    }
+
+    /// The priorities of all vertices.
+    pub(crate) fn priorities(&self) -> &[u32] {
+        &self.priorities
     }
 
     /// The priorities of all vertices; the rest is let go.

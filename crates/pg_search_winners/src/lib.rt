@@ -19,4 +19,4 @@ pub use arranging::arrange;
 pub use graph::Graph;
 pub use pg_search_components::{NONE, Placed};
 pub use played::Played;
-pub use winners::{Winners, find_winners};
+pub use winners::{Winners, WinningOrder, find_order, find_winners};

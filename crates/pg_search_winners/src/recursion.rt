@@ -17,6 +17,7 @@ use crate::lists::{Links, List, Sides};
 use crate::table::{Attraction, FIRST, FREE, Table};
 use pg_search_components::{NONE, at, count, from, put};
 use std::alloc::{AllocError, Global};
+use std::mem;
 
 /// A level that has begun.
 #[derive(Clone, Copy)]
@@ -78,6 +79,8 @@ const STEP: u32 = 4;
 pub(crate) struct Recursion {
     /// Vertices by rising priority: those of the part, and behind them those of levels that began again with few.
     order: Vec<u32>,
+    /// How many vertices the part has.
+    many: usize,
     /// Where in it the vertices begin that the next level may take, and the place behind the next of them.
     from: u32,
     to: u32,
@@ -102,6 +105,7 @@ impl Recursion {
     pub fn new(alloc: Global, vertices: u32) -> Result<Recursion, AllocError> {
         Ok(Recursion {
             order: Vec::new(alloc),
+            many: 0,
             from: 0,
             to: 0,
             place: 0,
@@ -124,13 +128,26 @@ impl Recursion {
 
     /// Begins with vertices that are free, and given by rising priority.
     pub fn begin(&mut self, vertices: &[u32]) -> Result<(), AllocError> {
-        for v in vertices {
-            self.links.forget(*v);
-        }
         self.order.clear();
         self.order.extend_from_slice(vertices)?;
+        self.restart();
+        Ok(())
+    }
+
+    /// The same with a list that isn't needed elsewhere until recursion gives up.
+    pub fn begin_with(&mut self, vertices: Vec<u32>) {
+        self.order = vertices;
+        self.restart();
+    }
+
+    /// Begins with all vertices of the order.
+    fn restart(&mut self) {
+        for v in &self.order {
+            self.links.forget(*v);
+        }
         self.from = 0;
-        self.to = count(vertices.len());
+        self.to = count(self.order.len());
+        self.many = self.order.len();
         self.place = self.to;
         self.levels.clear();
         self.base = FIRST;
@@ -138,7 +155,22 @@ impl Recursion {
         self.heads.clear();
         self.won = Sides::EMPTY;
         self.is_ending = false;
-        Ok(())
+    }
+
+    /// The vertices that it began with, by rising priority.
+    pub fn give_up(&mut self, alloc: Global) -> Vec<u32> {
+        let mut vertices = mem::replace(&mut self.order, Vec::new(alloc));
+        vertices.truncate(self.many);
+        vertices
+    }
+
+    /// Lets go of all but the lists that were won.
+    pub fn let_go(&mut self, alloc: Global) {
+        self.order = Vec::new(alloc);
+        self.attracted = Vec::new(alloc);
+        self.heads = Vec::new(alloc);
+        self.taken = Vec::new(alloc);
+        self.free = Vec::new(alloc);
     }
 
     /// What each player wins of the vertices that it began with; none where more was looked at than `looks`: then it can go on.

@@ -1,8 +1,9 @@
 //! The winners of a graph.
 
 use crate::graph::Graph;
-use crate::solver::Solver;
+use crate::solver::{Orders, Solver};
 use pg_arena::Player;
+use pg_check_order::Span;
 use pg_search_components::{NONE, at, count, put};
 use std::alloc::{AllocError, Global};
 
@@ -24,14 +25,31 @@ pub struct Winners {
     pub is_ordered: bool,
 }
 
+/// Who wins each vertex, as `Winners` says it, in one order: what Even wins, and behind it what Odd wins.
+#[derive(Drop)]
+pub struct WinningOrder {
+    /// The place of each vertex, if each stands in the order, as always but where all methods gave up.
+    pub places: Vec<u32>,
+    /// The height of what stands at each place, which is even where the priority is the winner's, and before which place its edges lead.
+    pub spans: Vec<Span>,
+    /// Where what Odd wins begins.
+    pub split: u32,
+    /// What the winner chooses at each vertex of its own.
+    pub choices: Vec<u32>,
+}
+
 /// The winners of a graph, in which each vertex has a successor.
 pub fn find_winners(alloc: Global, graph: &Graph) -> Result<Winners, AllocError> {
     let mut solver = Solver::new(alloc, graph)?;
     solver.run()?;
     let (table, orders) = solver.into_parts();
+    let spans = find_spans(alloc, graph.priorities(), &orders)?;
     let mut span = vec![in alloc; 0; table.regions.len()]?;
-    find_spans(alloc, graph, &orders.even, 0, &mut span)?;
-    find_spans(alloc, graph, &orders.odd, 1, &mut span)?;
+    let mut place = 0u32;
+    for v in orders.even.iter().chain(&orders.odd) {
+        put(&mut span, *v, end_of(&spans, place).saturating_sub(place));
+        place = place.saturating_add(1);
+    }
     let mut winner = Vec::with_capacity(alloc, table.regions.len())?;
     for region in &table.regions {
         winner.push(match *region {
@@ -39,48 +57,106 @@ pub fn find_winners(alloc: Global, graph: &Graph) -> Result<Winners, AllocError>
             _ => Player::Odd,
         })?;
     }
-    let ordered = orders.even.len().saturating_add(orders.odd.len());
     Ok(Winners {
         winner,
         choice: table.choices,
         of_even: orders.even,
         of_odd: orders.odd,
         span,
-        is_ordered: count(ordered) == graph.len(),
+        is_ordered: count(spans.len()) == graph.len(),
     })
 }
 
-/// Finds the spans of the vertices in a player's list: those of its own priorities reach up to the next greater priority.
-fn find_spans(
-    alloc: Global,
-    graph: &Graph,
-    list: &[u32],
-    player: u32,
-    spans: &mut [u32],
-) -> Result<(), AllocError> {
-    let mut priorities = Vec::with_capacity(alloc, list.len())?;
-    for v in list {
-        priorities.push(graph.priority(*v))?;
+/// The winners of a graph, in which each vertex has a successor, by their order. The graph is let go as soon as they are found.
+pub fn find_order(alloc: Global, graph: Graph) -> Result<WinningOrder, AllocError> {
+    let mut solver = Solver::new(alloc, &graph)?;
+    solver.run()?;
+    let (table, orders) = solver.into_parts();
+    let spans = find_spans(alloc, &graph.into_priorities(), &orders)?;
+    let split = count(orders.even.len());
+    // the place tells the region
+    let mut places = table.regions;
+    place_from(0, &orders.even, &mut places);
+    place_from(split, &orders.odd, &mut places);
+    Ok(WinningOrder {
+        places,
+        spans,
+        split,
+        choices: table.choices,
+    })
+}
+
+/// Gives vertices places one after another, from a first one on.
+fn place_from(first: u32, vertices: &[u32], places: &mut [u32]) {
+    let mut place = first;
+    for v in vertices {
+        put(places, *v, place);
+        place = place.saturating_add(1);
     }
-    // of the places behind, those that no greater priority stands before
+}
+
+/// The spans of all places: those of Even's list, and behind them those of Odd's.
+fn find_spans(alloc: Global, priorities: &[u32], orders: &Orders) -> Result<Vec<Span>, AllocError> {
+    let mut spans = Vec::with_capacity(alloc, priorities.len())?;
+    add_spans(alloc, priorities, &orders.even, 2, &mut spans)?;
+    add_spans(alloc, priorities, &orders.odd, 1, &mut spans)?;
+    Ok(spans)
+}
+
+/// Adds the spans of a player's list, whose heights are the priorities raised so much. Those of even heights reach up to the next
+/// greater one in the list.
+fn add_spans(
+    alloc: Global,
+    priorities: &[u32],
+    list: &[u32],
+    raised: u32,
+    spans: &mut Vec<Span>,
+) -> Result<(), AllocError> {
+    let first = count(spans.len());
+    for v in list {
+        spans.push(Span {
+            priority: at(priorities, *v).saturating_add(raised),
+            end: 0,
+        })?;
+    }
+    let all = count(spans.len());
+    // of the places behind, those that no greater height stands before
     let mut greatest: Vec<u32> = Vec::new(alloc);
-    for place in (0..count(list.len())).rev() {
-        let priority = at(&priorities, place);
-        let mut end = count(list.len());
+    for place in (first..all).rev() {
+        let height = height_of(spans, place);
+        let mut end = all;
         for _ in 0..list.len() {
             let Some(next) = greatest.last().copied() else {
                 break;
             };
-            if at(&priorities, next) > priority {
+            if height_of(spans, next) > height {
                 end = next;
                 break;
             }
             greatest.pop();
         }
         greatest.push(place)?;
-        if priority % 2 == player {
-            put(spans, at(list, place), end.saturating_sub(place));
+        if let Some(span) = spans.get_mut(place as usize) {
+            span.end = if height % 2 == 0 { end } else { place };
         }
     }
     Ok(())
+}
+
+/// The height at a place.
+#[inline(always)]
+fn height_of(spans: &[Span], place: u32) -> u32 {
+    match spans.get(place as usize) {
+        Some(span) => span.priority,
+        None => NONE,
+    }
+}
+
+/// The end of the span of a place.
+#[inline(always)]
+fn end_of(spans: &[Span], place: u32) -> u32 {
+    match spans.get(place as usize) {
+        Some(span) => span.end,
+        None => place,
+    }
 }
