@@ -32,6 +32,48 @@ struct Justifying {
 }
 
 impl Justifying {
+    /// Nothing is open yet.
+    fn new(alloc: Global, side: &Side) -> Result<Justifying, AllocError> {
+        Ok(Justifying {
+            board: Board::new(alloc, side.len())?,
+            is_settled: vec![in alloc; true; side.len() as usize]?,
+            beyond: Vec::new(alloc),
+        })
+    }
+
+    /// Settles what claims of own rows show, which are given in their order. None where winners aren't found.
+    fn settle(
+        &mut self,
+        alloc: Global,
+        side: &mut Side,
+    ) -> Result<Option<Vec<RowClaim>>, AllocError> {
+        let mut order = attract(side, alloc, &mut self.is_settled)?;
+        let open = self.unsettled(alloc, side)?;
+        if open.is_empty() {
+            return Ok(Some(order));
+        }
+        let mut levels = Levels::none(alloc);
+        let Some(shown) = self.play(alloc, side, &open, ALL, &mut levels)? else {
+            return Ok(None);
+        };
+        order.extend_from_slice(&shown)?;
+        for claim in &shown {
+            put(&mut self.is_settled, claim.vertex, true);
+        }
+        Ok(Some(order))
+    }
+
+    /// Sets the least rows of what isn't settled. False where winners aren't found.
+    fn set_rest(&mut self, alloc: Global, side: &mut Side) -> Result<bool, AllocError> {
+        let open = self.unsettled(alloc, side)?;
+        let Justifying {
+            board,
+            is_settled,
+            ..
+        } = self;
+        set_by_levels(side, alloc, &open, is_settled, board)
+    }
+
     /// What a claim needs of a successor: nothing of one that is settled, or that hasn't such a row.
     fn need(&self, side: &Side, w: u32, low: u32) -> Option<Asked> {
         let row = side.row(w);
@@ -184,39 +226,29 @@ pub fn finish(
     alloc: Global,
     is_least: bool,
 ) -> Result<Option<Vec<RowClaim>>, AllocError> {
-    let mut is_settled = vec![in alloc; true; side.len() as usize]?;
-    let mut order = attract(side, alloc, &mut is_settled)?;
-    let mut justifying = Justifying {
-        board: Board::new(alloc, side.len())?,
-        is_settled,
-        beyond: Vec::new(alloc),
+    let mut justifying = Justifying::new(alloc, side)?;
+    let Some(mut order) = justifying.settle(alloc, side)? else {
+        return Ok(None);
     };
+    if !is_least && !justifying.set_rest(alloc, side)? {
+        return Ok(None);
+    }
     let open = justifying.unsettled(alloc, side)?;
     if open.is_empty() {
         return Ok(Some(order));
     }
     let mut levels = Levels::new(alloc, side)?;
-    let Some(shown) = justifying.play(alloc, side, &open, ALL, &mut levels)? else {
-        return Ok(None);
-    };
-    order.extend_from_slice(&shown)?;
-    for claim in &shown {
-        put(&mut justifying.is_settled, claim.vertex, true);
-    }
-    let open = justifying.unsettled(alloc, side)?;
-    let Justifying {
-        board,
-        is_settled,
-        ..
-    } = &mut justifying;
-    if !is_least && !set_by_levels(side, alloc, &open, is_settled, board)? {
-        return Ok(None);
-    }
-    for claim in &justifying.unsettled(alloc, side)? {
+    for claim in &open {
         levels.ask(side, *claim)?;
     }
     if !justifying.play_levels(alloc, side, &mut levels, &mut order)? {
         return Ok(None);
     }
     Ok(Some(order))
+}
+
+/// Lowers a closed map to the least one. False where winners aren't found.
+pub fn lower_to_least(side: &mut Side<'_>, alloc: Global) -> Result<bool, AllocError> {
+    let mut justifying = Justifying::new(alloc, side)?;
+    Ok(justifying.settle(alloc, side)?.is_some() && justifying.set_rest(alloc, side)?)
 }
