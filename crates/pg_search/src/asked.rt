@@ -43,6 +43,15 @@ impl Levels {
         })
     }
 
+    /// No levels: nothing can be asked for.
+    pub fn none(alloc: Global) -> Levels {
+        Levels {
+            priorities: Vec::new(alloc),
+            lists: Vec::new(alloc),
+            lasts: Vec::new(alloc),
+        }
+    }
+
     /// Asks for a claim.
     pub fn ask(&mut self, side: &Side, asked: Asked) -> Result<(), AllocError> {
         if at(&self.lasts, asked.vertex) == asked.row {

@@ -36,6 +36,40 @@ struct Justifying {
 }
 
 impl Justifying {
+    /// The claims that aren't settled are open.
+    fn new(alloc: Global, side: &Side, is_settled: Vec<bool>) -> Result<Justifying, AllocError> {
+        Ok(Justifying {
+            board: Board::new(alloc, side.len())?,
+            is_settled,
+            beyond: Vec::new(alloc),
+            cuts: Cuts::new(alloc, side.len())?,
+            needed: Vec::new(alloc),
+        })
+    }
+
+    /// Settles what the open claims of own rows show by themselves, which are given in their order. None where winners aren't found.
+    fn settle(
+        &mut self,
+        alloc: Global,
+        side: &mut Side,
+        open: &[Asked],
+    ) -> Result<Option<Vec<RowClaim>>, AllocError> {
+        let mut levels = Levels::none(alloc);
+        let Some(shown) = self.play(alloc, side, open, ALL, &mut levels)? else {
+            return Ok(None);
+        };
+        for claim in &shown {
+            put(&mut self.is_settled, claim.vertex, true);
+        }
+        Ok(Some(shown))
+    }
+
+    /// Sets the least rows of what isn't settled. False where winners aren't found.
+    fn set_rest(&mut self, alloc: Global, side: &mut Side) -> Result<bool, AllocError> {
+        let open = unsettled(alloc, side, &self.is_settled)?;
+        set_by_levels(side, alloc, &open, &self.is_settled, &mut self.board)
+    }
+
     /// What a claim of a level needs of a successor that isn't settled; nothing of one that hasn't such a row.
     #[inline(always)]
     fn need(&mut self, side: &Side, w: u32, low: u32, level: u32) -> Option<Asked> {
@@ -232,35 +266,36 @@ pub fn finish(
     if open.is_empty() {
         return Ok(Some(order));
     }
-    let mut justifying = Justifying {
-        board: Board::new(alloc, side.len())?,
-        is_settled,
-        beyond: Vec::new(alloc),
-        cuts: Cuts::new(alloc, side.len())?,
-        needed: Vec::new(alloc),
-    };
-    let mut levels = Levels::new(alloc, side)?;
-    let Some(shown) = justifying.play(alloc, side, &open, ALL, &mut levels)? else {
+    let mut justifying = Justifying::new(alloc, side, is_settled)?;
+    let Some(shown) = justifying.settle(alloc, side, &open)? else {
         return Ok(None);
     };
     order.extend_from_slice(&shown)?;
-    for claim in &shown {
-        put(&mut justifying.is_settled, claim.vertex, true);
-    }
-    let open = unsettled(alloc, side, &justifying.is_settled)?;
-    let Justifying {
-        board,
-        is_settled,
-        ..
-    } = &mut justifying;
-    if !is_least && !set_by_levels(side, alloc, &open, is_settled, board)? {
+    if !is_least && !justifying.set_rest(alloc, side)? {
         return Ok(None);
     }
-    for claim in &unsettled(alloc, side, &justifying.is_settled)? {
+    let open = unsettled(alloc, side, &justifying.is_settled)?;
+    if open.is_empty() {
+        return Ok(Some(order));
+    }
+    let mut levels = Levels::new(alloc, side)?;
+    for claim in &open {
         levels.ask(side, *claim)?;
     }
     if !justifying.play_levels(alloc, side, &mut levels, &mut order)? {
         return Ok(None);
     }
     Ok(Some(order))
+}
+
+/// Lowers a closed map to the least one. False where winners aren't found.
+pub fn lower_to_least(side: &mut Side<'_>, alloc: Global) -> Result<bool, AllocError> {
+    let mut is_settled = vec![in alloc; true; side.len() as usize]?;
+    attract(side, alloc, &mut is_settled)?;
+    let open = unsettled(alloc, side, &is_settled)?;
+    if open.is_empty() {
+        return Ok(true);
+    }
+    let mut justifying = Justifying::new(alloc, side, is_settled)?;
+    Ok(justifying.settle(alloc, side, &open)?.is_some() && justifying.set_rest(alloc, side)?)
 }

@@ -13,6 +13,7 @@ mod ladder;
 mod leveling;
 mod one_parity;
 mod proposal;
+mod reducing;
 mod region;
 mod search;
 mod shunning;

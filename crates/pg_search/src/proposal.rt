@@ -15,6 +15,12 @@ const LOOKS: u64 = 64;
 
 const LOOKS_OF_FEW: u64 = 1 << 20;
 
+/// How often lowering and ways may look at a graph.
+pub(crate) fn most_looks(graph: &Graph) -> u64 {
+    let size = u64::from(graph.len()).saturating_add(u64::from(graph.edges()));
+    size.saturating_mul(LOOKS).saturating_add(LOOKS_OF_FEW)
+}
+
 /// The map of a game alone: claims show top as well. None where the search gives up.
 pub fn propose_measure(alloc: Global, game: &Game) -> Result<Option<Proposal>, AllocError> {
     if let Some(Proposals { of_game, .. }) = propose_at_once(alloc, game, true)? {
@@ -69,8 +75,7 @@ fn propose_for(
     tops: Vec<RowClaim>,
 ) -> Result<Option<Proposal>, AllocError> {
     let graph = &region.graph;
-    let size = u64::from(graph.len()).saturating_add(u64::from(graph.edges()));
-    let most = size.saturating_mul(LOOKS).saturating_add(LOOKS_OF_FEW);
+    let most = most_looks(graph);
     let mut side = Side::new(alloc, graph, region.player, &region.choices, most)?;
     let Some(found) = find(&mut side, alloc, &region.choices)? else {
         return Ok(None);

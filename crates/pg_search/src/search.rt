@@ -1,10 +1,11 @@
 //! The search for the least map of a side: from below by lifting where that is short, and else from above.
 //!
 //! From above: the map of a winning strategy is closed. It is lowered where a successor gives less, until none does, or until that takes
-//! too long. What is too great then holds itself up: it is set by levels.
+//! too long. What is too great then holds itself up: it is set by levels. All this is done for a lesser game, where there is one.
 
 use crate::exact::set_exactly;
-use crate::justifying::finish;
+use crate::justifying::{finish, lower_to_least};
+use crate::reducing::Reduced;
 use crate::ways::Ways;
 use pg_search_rows::{NONE, RowClaim, Side};
 use std::alloc::{AllocError, Global};
@@ -19,29 +20,49 @@ pub fn find(
         return finish(side, alloc, true);
     }
     side.choose(choices);
-    let is_swept = side.sweep(alloc)?;
-    if side.has_no_choice() {
+    if !side.has_no_choice() {
+        return find_reduced(side, alloc);
+    }
+    if side.sweep(alloc)? {
         // the map of the strategy is the least one then
-        if is_swept {
-            return finish(side, alloc, true);
-        }
-        side.clear(alloc)?;
-        let mut ways = Some(Ways::new(alloc, side.len())?);
-        let is_shown = set_exactly(side, alloc, &mut ways)?;
-        if let Some(ways) = ways
-            && is_shown
-        {
-            return Ok(Some(ways.into_claims()));
-        }
-        side.clear(alloc)?;
-        set_exactly(side, alloc, &mut None)?;
         return finish(side, alloc, true);
     }
-    if !is_swept {
+    side.clear(alloc)?;
+    let mut ways = Some(Ways::new(alloc, side.len())?);
+    let is_shown = set_exactly(side, alloc, &mut ways)?;
+    if let Some(ways) = ways
+        && is_shown
+    {
+        return Ok(Some(ways.into_claims()));
+    }
+    side.clear(alloc)?;
+    set_exactly(side, alloc, &mut None)?;
+    finish(side, alloc, true)
+}
+
+/// The same where the winner has a choice: rows are found for a lesser game, if there is one that is much less.
+fn find_reduced(side: &mut Side<'_>, alloc: Global) -> Result<Option<Vec<RowClaim>>, AllocError> {
+    let reduced = Reduced::of(alloc, side)?;
+    if !reduced.is_small(side) {
+        drop(reduced);
+        set_from_above(side, alloc)?;
+        return finish(side, alloc, false);
+    }
+    let mut lesser = reduced.side(alloc, side)?;
+    set_from_above(&mut lesser, alloc)?;
+    if !lower_to_least(&mut lesser, alloc)? {
+        return Ok(None);
+    }
+    reduced.extend(lesser, side)?;
+    finish(side, alloc, true)
+}
+
+/// Sets the rows under the winner's strategy, and lowers them.
+fn set_from_above(side: &mut Side<'_>, alloc: Global) -> Result<(), AllocError> {
+    if !side.sweep(alloc)? {
         set_exactly(side, alloc, &mut None)?;
     }
-    lower(side, alloc)?;
-    finish(side, alloc, false)
+    lower(side, alloc)
 }
 
 /// Lowers the map of a strategy.
