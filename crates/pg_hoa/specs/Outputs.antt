@@ -21,11 +21,12 @@ abbrev pub with_outputs : List (List ℕ) → Automaton → Automaton
 with_outputs names a =
     record a { controllable = map (λ p. list_any (λ n. n == p) (outputs names a)) (range_with_len 0 (length a.propositions)) }
 
--- The first text spells an automaton that has a proposition of each name. The second spells the same automaton, but that the
--- controller sets the propositions of these names.
+-- The first text spells an automaton that has a proposition of each name, and no header says what the controller sets. The second
+-- spells the same automaton, but that the controller sets the propositions of these names.
 pub record HasOutputs (bytes : List ℕ) (names : List (List ℕ)) (text : List ℕ) : Type 0 where
   pub automaton : Automaton
   pub spelt : Spelt bytes automaton
+  pub free : has_header (codes "controllable-AP") spelt.written ≡ false
   pub known : All (λ name. Contains automaton.propositions name) names
   pub given : Spelt text (with_outputs names automaton)
 

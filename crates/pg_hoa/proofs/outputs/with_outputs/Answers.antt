@@ -38,12 +38,13 @@ returns-in-Ok-clause-found c =
     let names = map (λ (name : Bor (List ℕ)). name.now) c.args.names.now in
     let a = c.in_ok-automaton.automaton in
     let s = c.in_ok-automaton.ensures.found in
+    let free = sym (c.in-Ok-false.ensures s.written s.text) ∙ c.in-Ok-false.field-0-test in
     let written = subst (λ (ns : List ℕ). IsText c.in-Ok.text.items (with_controls ns s.written))
     (c.deref.ensures.value ∙ c.in_ok-numbers.ensures.value) (c.in-Ok.ensures s.written s.text) in
     record {
       automaton = a;
       spelt = s;
+      free = free;
       known = all_map (Contains a.propositions) (λ (name : Bor (List ℕ)). name.now) c.args.names.now c.in-None.ensures;
-      given = given_spelt c.args.bytes.now c.in-Ok.text.items names a s (sym (c.in-Ok-false.ensures s.written s.text) ∙ c.in-Ok-false.field-0-test)
-          (outputs_below names a) written;
+      given = given_spelt c.args.bytes.now c.in-Ok.text.items names a s free (outputs_below names a) written;
     }
