@@ -20,7 +20,7 @@ use std::process::ExitCode;
 /// The status of a fault of the command line.
 const BAD_WORDS: u8 = 2;
 
-/// The status of an answer other than `WINS`, `ACCEPTED` and `REFUTES`, if the status is to say so.
+/// With `--status`, the status of an answer other than `WINS`, `ACCEPTED`, `REFUTES` and `SAME`.
 const OTHER_ANSWER: u8 = 10;
 
 /// As many bytes of an answer that may be long are written at once.

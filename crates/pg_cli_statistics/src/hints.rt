@@ -191,6 +191,16 @@ fn other_than(alloc: Global, text: &[u8], wanted: Kind) -> Option<&'static str> 
     }
 }
 
+/// The hint for a circuit that ends too early, or whose lines in ASCII don't end with a newline alone.
+fn on_circuit(text: &[u8], offset: usize) -> Option<&'static str> {
+    let rest = text.get(offset..)?;
+    match (text.starts_with(b"aag"), rest) {
+        (_, []) => Some("the text ends inside a circuit; each line ends with a newline, the last one too"),
+        (true, [b'\r', b'\n', ..]) => Some("lines end with a newline alone here; tr -d '\\r' removes the carriage returns"),
+        _ => None,
+    }
+}
+
 /// The hint for a text that no command reads.
 fn unreadable(text: &[u8]) -> Option<&'static str> {
     if text.trim_ascii().is_empty() {
@@ -222,6 +232,7 @@ pub(crate) fn on_syntax(
         Kind::Game => beside(&OF_GAMES, rest),
         Kind::Automaton => beside(&OF_AUTOMATA, rest),
         Kind::Formula => on_formula(text, offset),
+        Kind::Circuit => on_circuit(text, offset),
         _ => None,
     }
 }
