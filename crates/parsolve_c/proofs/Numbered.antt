@@ -60,4 +60,18 @@ numbered n command is (inl lt) = sym (number_back n lt) ∙ ap number_in is
 numbered n command is (inr over) = let none = sym (no_command n over) ∙ is in cc
 
 pub numbers_tell_apart : NumbersTellApart
-numbers_tell_apart m n command a b = numbered m command a (cases_lt m 12) ∙ sym (numbered n command b (cases_lt n 12))
+numbers_tell_apart = record {
+  measure = refl;
+  solve = refl;
+  check = refl;
+  replay = refl;
+  game = refl;
+  synth = refl;
+  solve_any = refl;
+  verify = refl;
+  synth_small = refl;
+  automaton = refl;
+  means = refl;
+  synth_counter = refl;
+  one_number = λ m n command a b. numbered m command a (cases_lt m 12) ∙ sym (numbered n command b (cases_lt n 12));
+}

@@ -28,9 +28,21 @@ command_of n =
     else (if n == PARSOLVE_COMMAND_SYNTH_COUNTER then Some (SynthCounter 1)
     else None)))))))))))
 
--- a command has one number
-abbrev pub NumbersTellApart : Type 0
-NumbersTellApart = (m n : ℕ) (command : Command) → command_of m ≡ Some command → command_of n ≡ Some command → m ≡ n
+-- each number of the header has a command of its own, and no command has two numbers
+pub record NumbersTellApart : Type 0 where
+  pub measure : command_of PARSOLVE_COMMAND_MEASURE ≡ Some (Measure 1)
+  pub solve : command_of PARSOLVE_COMMAND_SOLVE ≡ Some (Solve 1)
+  pub check : command_of PARSOLVE_COMMAND_CHECK ≡ Some Check
+  pub replay : command_of PARSOLVE_COMMAND_REPLAY ≡ Some Replay
+  pub game : command_of PARSOLVE_COMMAND_GAME ≡ Some Game
+  pub synth : command_of PARSOLVE_COMMAND_SYNTH ≡ Some (Synth 1)
+  pub solve_any : command_of PARSOLVE_COMMAND_SOLVE_ANY ≡ Some (SolveAny 1)
+  pub verify : command_of PARSOLVE_COMMAND_VERIFY ≡ Some (Verify 1 false false)
+  pub synth_small : command_of PARSOLVE_COMMAND_SYNTH_SMALL ≡ Some (SynthSmall 1)
+  pub automaton : command_of PARSOLVE_COMMAND_AUTOMATON ≡ Some Automaton
+  pub means : command_of PARSOLVE_COMMAND_MEANS ≡ Some Means
+  pub synth_counter : command_of PARSOLVE_COMMAND_SYNTH_COUNTER ≡ Some (SynthCounter 1)
+  pub one_number : (m n : ℕ) (command : Command) → command_of m ≡ Some command → command_of n ≡ Some command → m ≡ n
 
 -- the text is what the command of this number prints for the input
 pub record IsPrinted (n : ℕ) (input text : List ℕ) : Type 0 where

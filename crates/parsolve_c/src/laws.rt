@@ -8,7 +8,7 @@ pub fn codes_tell_apart()
     ensures { TellsFaultsApart }
 {}
 
-/// The number of a command is that of no other.
+/// Each number of the header is that of its command, and of no other.
 pub fn numbers_tell_apart()
     ensures { NumbersTellApart }
 {}

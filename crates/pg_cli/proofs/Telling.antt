@@ -7,7 +7,7 @@ use Rattle.pg_cli_command.specs.Measuring.{MapKind}
 use Rattle.pg_cli_command.specs.Answers.{Answers, PrintsBy, RefusesBy}
 use Rattle.pg_cli_command.specs.declared.fault.CliFault.{CliFault}
 use Rattle.pg_cli_command.specs.declared.fault.CliFault.TheVariants as cli
-use Rattle.pg_cli.specs.InMemory.{memory_fault, in_memory}
+use Rattle.pg_cli_command.specs.InMemory.{memory_fault, in_memory}
 
 no_listening : (Kind : MapKind) (command : Command) (input : List ℕ) → RefusesBy Kind command input cli.Listen → ⊥
 no_listening Kind (Measure workers) input why = why.1

@@ -1,4 +1,3 @@
-pub mod InMemory
 pub mod Linked
 pub mod Serving
 pub mod Mirrors

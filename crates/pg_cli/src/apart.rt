@@ -6,10 +6,9 @@ ghost use Rattle.pg_cli_command.specs.Measuring.{IsClosedMapOf, IsMeasureOf};
 ghost use Rattle.pg_cli_command.specs.Answers.{Answers, Prints, PrintsBy, Refuses, RefusesBy};
 ghost use Rattle.pg_cli_words.specs.Words.{HasFewWorkers, HasNoWorkers};
 
-use crate::memory::in_memory;
 use crate::over_links::Rounds;
 use crate::program::answer_over;
-use pg_cli_command::{CliFault, Command, MOST_BYTES, read_input};
+use pg_cli_command::{CliFault, Command, MOST_BYTES, in_memory, read_input};
 use pg_coord::{Link, LinkFault, Reach, SocketLink, halt};
 use std::alloc::{AllocError, Global};
 use std::io::{Read, Write};

@@ -3,13 +3,11 @@
 
 mod apart;
 mod attended;
-mod memory;
 mod over_links;
 mod program;
 mod working;
 
 pub use apart::{Programs, run_apart};
-pub use memory::in_memory;
 pub use pg_cli_command::{
     CliFault, Command, MOST_BYTES, check_texts, exit_code, laws, means_texts, part_texts,
     read_input, replay_texts, winners, write_fault,

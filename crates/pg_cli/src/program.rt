@@ -11,9 +11,8 @@ ghost use Rattle.pg_cli_words.specs.Commands.{workers_of};
 ghost use Rattle.pg_cli.specs.Linked.{IsLeastOverTold};
 ghost use Rattle.pg_cli_words.specs.Words.{HasFewWorkers};
 
-use crate::memory::in_memory;
 use crate::over_links::{OverLinks, Rounds};
-use pg_cli_command::{CliFault, Command, MOST_BYTES, read_input, run_by};
+use pg_cli_command::{CliFault, Command, MOST_BYTES, in_memory, read_input, run_by};
 use pg_cli_in_one_piece::InOnePiece;
 use pg_coord::{Link, MemoryLink};
 use std::alloc::{AllocError, Global};

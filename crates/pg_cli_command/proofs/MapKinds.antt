@@ -3,6 +3,8 @@ use Rattle.pg_cli_command.proofs.Common.{ℕ, List, Option, Some, None, Result, 
 use Rattle.pg_cli_command.proofs.Common.{MapKind, IsClosedMapOf, IsMeasureOf, IsMeasured, IsSolvedBy, IsSolved, IsUndecidedIn, IsUndecidedAt}
 use Rattle.pg_cli_command.proofs.Common.{RefusesSolve, IsWonFor, IsRealized, IsSynthesised, IsUndecidedFor, HasLargeMachine, RefusesSynth}
 use Rattle.pg_cli_command.proofs.Common.{Meaning, meaning_of, PrintsBy, RefusesBy, Answers, Command, Measure, Solve, SolveAny, CliFault}
+use Rattle.pg_hoa_automaton.specs.Automata.{Automaton}
+use Rattle.pg_aiger.specs.Circuits.{Circuit}
 use Rattle.pg_aiger.specs.declared.fault.AigerFault.TheVariants as aiger
 use Rattle.pg_synth.specs.declared.fault.SynthFault.TheVariants as synth
 use Rattle.pg_cli_words.specs.declared.command.Command.TheVariants.{Synth, SynthSmall, SynthCounter, Verify}
@@ -10,7 +12,7 @@ use Rattle.pg_verify.specs.declared.fault.VerifyFault.TheVariants as verify
 use Rattle.pg_cli_command.specs.Parts.{Parting, IsParted}
 use Rattle.pg_cli_command.specs.Small.{IsSynthesisedSmall}
 use Rattle.pg_cli_command.specs.Counter.{IsSynthesisedCounter, RefusesCounter}
-use Rattle.pg_cli_command.specs.Verifying.{RefusesVerify}
+use Rattle.pg_cli_command.specs.Verifying.{IsUndecidedOn, RefusesVerify}
 use Rattle.pg_cli_command.specs.Refuting.{RefusesRefute, RefusesLook}
 use Rattle.std.specs.Prelude.{Bool, true, false}
 use Rattle.pg_cli_command.specs.declared.fault.CliFault.TheVariants as cli
@@ -123,16 +125,28 @@ module _ (Kind Other : MapKind) (is_other : (game : List GameVertex) (map : MapV
   uncountered_too input cli.NoCounter why = record { odd = won_too input _ why.odd; printed = why.printed }
   uncountered_too input fault why = unsynthesised_too input fault why
 
+  undecided_on_too : (a : Automaton) (circuit : Circuit) (id : ℕ) → IsUndecidedOn Kind a circuit id → IsUndecidedOn Other a circuit id
+  undecided_on_too a circuit id u = record {
+    product = u.product;
+    product_of = u.product_of;
+    game = u.game;
+    game_of = u.game_of;
+    limits = u.limits;
+    undecided = undecided_in_too u.game id u.undecided;
+  }
+
   unverified_too : (Parts : Parting) (by_place : Bool) (fault : CliFault) → RefusesVerify Kind Parts by_place fault
       → RefusesVerify Other Parts by_place fault
-  unverified_too Parts by_place (cli.Undecided id) why = (why.0, undecided_in_too why.0 id why.1)
+  unverified_too Parts by_place (cli.Undecided id) (a, given, tied, paired, (acyclic, why)) =
+      (a, given, tied, paired, (acyclic, undecided_on_too a tied id why))
   unverified_too Parts by_place (cli.Verify verify.TooLarge) why = why
   unverified_too Parts by_place (cli.Synth synth.TooLarge) why = why
   unverified_too Parts by_place _ why = why
 
   unrefuted_too : (Parts : Parting) (by_place : Bool) (fault : CliFault) → RefusesRefute Kind Parts by_place fault
       → RefusesRefute Other Parts by_place fault
-  unrefuted_too Parts by_place (cli.Undecided id) why = (why.0, undecided_in_too why.0 id why.1)
+  unrefuted_too Parts by_place (cli.Undecided id) (a, given, tied, opposed, (acyclic, why)) =
+      (a, given, tied, opposed, (acyclic, undecided_on_too opposed.twin tied id why))
   unrefuted_too Parts by_place (cli.Verify verify.TooLarge) why = why
   unrefuted_too Parts by_place (cli.Synth synth.TooLarge) why = why
   unrefuted_too Parts by_place _ why = why

@@ -1,7 +1,8 @@
 -- What is printed of what a command worked out, and what is known of an input that was read.
 use Rattle.pg_cli_command.proofs.Common.{◌≡◌, ℕ, ◌≤◌, List, length, Option, Some, None, Result, Ok, Err, sym, subst, IfOk, IfErr, IfSome, OnOk}
 use Rattle.pg_cli_command.proofs.Common.{MatchResult, Appends, MapKind, meaning_of, RefusesBy, Answers, ShowsWhat, Fails, MOST_BYTES, Command}
-use Rattle.pg_cli_command.proofs.Common.{CliFault, ◌⊎◌, inl, inr, refl, []}
+use Rattle.pg_cli_command.proofs.Common.{CliFault, ◌⊎◌, inl, inr, refl, ap, []}
+use Rattle.pg_cli_command.specs.InMemory.{memory_fault, in_memory}
 use Rattle.pg_cli_command.specs.declared.fault.CliFault.TheVariants as cli
 
 -- the text of an answer was written
@@ -25,6 +26,13 @@ pub shown : {A : Type 0} (shows : A → List ℕ → Type 0) (Prints : List ℕ 
     → IfOk worked_out (ShowsWhat Prints shows) → IsWritten shows (Some old) (Some new) worked_out → Prints new
 shown shows Prints old new (Ok answer) empty told written = subst Prints (sym (rw empty at written told.0 told.1)) told.2
 shown shows Prints old new (Err why) empty told written = absurd written
+
+-- so it is of what was written to memory
+pub shown_in_memory : {A Output : Type 0} (shows : A → List ℕ → Type 0) (Prints : List ℕ → Type 0) (items : Output → List ℕ) (old : List ℕ)
+    (output : Output) (worked_out : Result A CliFault) (written : Result (Unit {0}) CliFault) → old ≡ [] → IfOk worked_out (ShowsWhat Prints shows)
+    → OnOk written (IsWritten shows (Some old) (Some (items output)) worked_out) → IfOk (in_memory written output) (λ o. Prints (items o))
+shown_in_memory shows Prints items old output worked_out (Ok done) empty told is = shown shows Prints old (items output) worked_out empty told is
+shown_in_memory shows Prints items old output worked_out (Err fault) empty told is = tt
 
 -- what fails at its work is refused
 refused : (Kind : MapKind) (command : Command) (input : List ℕ) (fault : CliFault) → length input ≤ MOST_BYTES
@@ -64,6 +72,23 @@ at_fault Refuses worked_out (Ok done) fails is = tt
 at_fault Refuses (Ok answer) (Err fault) fails is = inl is
 at_fault Refuses (Err why) (Err fault) fails is =
     inr (subst (λ (it : CliFault). (it ≡ cli.OutOfMemory) ⊎ Refuses it) (sym is) (fails_or Refuses why fails))
+
+fails_in_memory : (Refuses : CliFault → Type 0) (fault : CliFault) → Fails Refuses fault
+    → (memory_fault fault ≡ cli.OutOfMemory) ⊎ Refuses (memory_fault fault)
+fails_in_memory Refuses cli.OutOfMemory why = inl refl
+fails_in_memory Refuses cli.Read why = absurd why
+fails_in_memory Refuses cli.Write why = absurd why
+fails_in_memory Refuses cli.InputTooLong why = absurd why
+fails_in_memory Refuses _ why = inr why
+
+-- but in memory the writer fails only where memory runs out
+pub refused_in_memory : {A Output : Type 0} (Refuses : CliFault → Type 0) (output : Output) (worked_out : Result A CliFault)
+    (written : Result (Unit {0}) CliFault) → IfErr worked_out (Fails Refuses) → IfErr written (IsAtFault worked_out)
+    → IfErr (in_memory written output) (λ fault. (fault ≡ cli.OutOfMemory) ⊎ Refuses fault)
+refused_in_memory Refuses output worked_out (Ok done) fails is = tt
+refused_in_memory Refuses output (Ok answer) (Err fault) fails is = inl (ap memory_fault is)
+refused_in_memory Refuses output (Err why) (Err fault) fails is =
+    subst (λ (it : CliFault). (memory_fault it ≡ cli.OutOfMemory) ⊎ Refuses (memory_fault it)) (sym is) (fails_in_memory Refuses why fails)
 
 -- and so it is of the command that is asked for
 pub answered : {A : Type 0} (shows : A → List ℕ → Type 0) (Kind : MapKind) (asked command : Command) (input : List ℕ) (old new : Option (List ℕ))

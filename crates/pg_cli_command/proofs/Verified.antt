@@ -68,11 +68,12 @@ game_unlooked Kind a product circuit synth.OutOfMemory is why = tt
 game_unlooked Kind a product circuit synth.TooLarge is why = (product, why.0, is, why.1, why.2)
 
 -- and of its solution
-pub game_unsolved : (Kind : MapKind) (a : Automaton) (circuit : Circuit) (game : List GameVertex) (fault : CliFault) → IsUnsolved Kind game fault
-    → IsUnlooked Kind a circuit fault
-game_unsolved Kind a circuit game cli.OutOfMemory why = tt
-game_unsolved Kind a circuit game (cli.Undecided id) why = (game, why)
-game_unsolved Kind a circuit game _ why = absurd why
+pub game_unsolved : (Kind : MapKind) (a product : Automaton) (circuit : Circuit) (game : List GameVertex) (initial : ℕ) (fault : CliFault)
+    → IsProductOf a circuit product → answers.IsSynthGame product game initial → IsUnsolved Kind game fault → IsUnlooked Kind a circuit fault
+game_unsolved Kind a product circuit game initial cli.OutOfMemory is made why = tt
+game_unsolved Kind a product circuit game initial (cli.Undecided id) is made why =
+    record { product = product; product_of = is; game = game; game_of = made.is_game_of; limits = made.limits; undecided = why }
+game_unsolved Kind a product circuit game initial _ is made why = absurd why
 
 -- and of the look at the circuit
 pub unlooked : (Kind : MapKind) (Parts : Parting) (by_place : Bool) (a : Automaton) (given tied : Circuit) → ArePaired Parts by_place a given tied
@@ -80,7 +81,7 @@ pub unlooked : (Kind : MapKind) (Parts : Parting) (by_place : Bool) (a : Automat
 unlooked Kind Parts by_place a given tied paired acyclic cli.OutOfMemory why = tt
 unlooked Kind Parts by_place a given tied paired acyclic (cli.Verify verify.TooLarge) why = (a, given, tied, paired, (acyclic, why))
 unlooked Kind Parts by_place a given tied paired acyclic (cli.Synth synth.TooLarge) why = (a, given, tied, paired, (acyclic, why))
-unlooked Kind Parts by_place a given tied paired acyclic (cli.Undecided id) why = why
+unlooked Kind Parts by_place a given tied paired acyclic (cli.Undecided id) why = (a, given, tied, paired, (acyclic, why))
 unlooked Kind Parts by_place a given tied paired acyclic _ why = absurd why
 
 -- and of the look at a circuit that plays the environment
@@ -90,7 +91,7 @@ pub unrefuted : (Kind : MapKind) (Parts : Parting) (by_place : Bool) (a : Automa
 unrefuted Kind Parts by_place a given tied opposed acyclic cli.OutOfMemory why = tt
 unrefuted Kind Parts by_place a given tied opposed acyclic (cli.Verify verify.TooLarge) why = inr (a, given, tied, opposed, (acyclic, why))
 unrefuted Kind Parts by_place a given tied opposed acyclic (cli.Synth synth.TooLarge) why = (a, given, tied, opposed, (acyclic, why))
-unrefuted Kind Parts by_place a given tied opposed acyclic (cli.Undecided id) why = why
+unrefuted Kind Parts by_place a given tied opposed acyclic (cli.Undecided id) why = (a, given, tied, opposed, (acyclic, why))
 unrefuted Kind Parts by_place a given tied opposed acyclic _ why = absurd why
 
 -- and of the counterpart

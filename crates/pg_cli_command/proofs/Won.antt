@@ -22,10 +22,11 @@ none_in never game is_game id u =
     none_at never game u.even u.odd is_game u.even_found u.odd_found u.undecided.vertex u.undecided.undecided
 
 pub none_undecided : NeverUndecided → NoneUndecided
-none_undecided never input id = (
-  λ u. none_in never u.game u.spelt.game_of.well id u.undecided,
-  λ u. none_in never u.game u.made.game_of.is_game id u.undecided,
-)
+none_undecided never = record {
+  solving = λ input id u. none_in never u.game u.spelt.game_of.well id u.undecided;
+  synthesising = λ input id u. none_in never u.game u.made.game_of.is_game id u.undecided;
+  verifying = λ a circuit id u. none_in never u.game u.game_of.is_game id u.undecided;
+}
 
 measure_of : HasBounds → GameLines → HasLeastProgressMeasure → (game : List GameVertex) → IsGame game → (map : MapValue) × IsMeasureOf game map
 measure_of bounded lines least game is_game =

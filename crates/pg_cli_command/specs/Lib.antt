@@ -11,6 +11,7 @@ pub mod Verifying
 pub mod Refuting
 pub mod Verdicts
 pub mod Answers
+pub mod InMemory
 pub mod Faults
 pub mod FaultTexts
 pub mod Laws

@@ -1,6 +1,5 @@
 -- What `verify --environment` prints.
 use Rattle.std.specs.Prelude.{◌≡◌, ℕ, ◌<◌, ◌⊎◌, Bool, true, false, List, ◌++◌, length, codes}
-use Rattle.pg_arena.specs.Games.{GameVertex}
 use Rattle.pg_hoa_automaton.specs.Automata.{Automaton}
 use Rattle.pg_hoa.specs.AutomatonText.{Spelt}
 use Rattle.pg_synth.specs.declared.fault.SynthFault.TheVariants as synth
@@ -20,9 +19,8 @@ use Rattle.pg_verify_environment.specs.declared.outcome.Outcome.{Outcome}
 use Rattle.pg_verify_environment.specs.declared.outcome.Outcome.TheVariants.{Refutes, Answered}
 use Rattle.pg_cli_command.specs.Parts.{Parting}
 use Rattle.pg_cli_command.specs.Measuring.{MapKind}
-use Rattle.pg_cli_command.specs.Solving.{IsUndecidedIn}
 use Rattle.pg_cli_command.specs.Making.{IsNoAutomaton}
-use Rattle.pg_cli_command.specs.Verifying.{letter_lines, IsVerified, FailsFirstText, FailsSecondText, IsUntied, RefusesVerify}
+use Rattle.pg_cli_command.specs.Verifying.{letter_lines, IsVerified, FailsFirstText, FailsSecondText, IsUntied, IsUndecidedOn, RefusesVerify}
 use Rattle.pg_cli_command.specs.declared.fault.CliFault.{CliFault}
 use Rattle.pg_cli_command.specs.declared.fault.CliFault.TheVariants as cli
 use Rattle.pg_cli_command.specs.declared.fault.CliFault.TheVariants.{NoSeparator, Hoa, Tie, Netlist, Verify, Hearing, Synth, Undecided}
@@ -84,7 +82,7 @@ RefusesRefute Kind Parts by_place (Verify verify.TooLarge) =
     FailsFirstText Parts (λ first. (a : Automaton) × Spelt first a × IsTooLarge a)
     ⊎ IsOpposedPair Parts by_place (λ twin tied. IsAcyclic tied × HasTooManyStates twin tied)
 RefusesRefute Kind Parts by_place (Synth synth.TooLarge) = IsOpposedPair Parts by_place (λ twin tied. IsAcyclic tied × HasLargeGame twin tied)
-RefusesRefute Kind Parts by_place (Undecided id) = (game : List GameVertex) × IsUndecidedIn Kind game id
+RefusesRefute Kind Parts by_place (Undecided id) = IsOpposedPair Parts by_place (λ twin tied. IsAcyclic tied × IsUndecidedOn Kind twin tied id)
 RefusesRefute Kind Parts by_place _ = ⊥
 
 -- ---- for either player

@@ -1,9 +1,10 @@
 -- What `verify` prints.
 use Rattle.std.specs.Prelude.{◌≡◌, ℕ, ◌==◌, ◌/◌, ◌%◌, Bool, List, [], ◌∷◌, ◌++◌, codes, if◌then◌else◌}
 use Rattle.std.specs.List.{flat_map}
-use Rattle.pg_arena.specs.Games.{GameVertex}
+use Rattle.pg_arena.specs.Games.{GameVertex, IsWithinLimits}
 use Rattle.pg_hoa_automaton.specs.Automata.{Automaton}
 use Rattle.pg_hoa.specs.AutomatonText.{Spelt}
+use Rattle.pg_synth.specs.AutomatonGames.{IsGameOfAutomaton}
 use Rattle.pg_synth.specs.declared.fault.SynthFault.TheVariants as synth
 use Rattle.pg_aiger.specs.Circuits.{Circuit}
 use Rattle.pg_aiger.specs.CircuitText.{Symbol}
@@ -12,7 +13,7 @@ use Rattle.pg_aiger_reader.specs.Texts.{IsRead, SpellsNone}
 use Rattle.pg_aiger_reader.specs.Faults.{Refuses}
 use Rattle.pg_aiger_reader.specs.Ties.{IsTied, IsTieFault}
 use Rattle.pg_aiger_reader.specs.declared.fault.TieFault.{TieFault}
-use Rattle.pg_verify.specs.Products.{HasLargeGame}
+use Rattle.pg_verify.specs.Products.{IsProductOf, HasLargeGame}
 use Rattle.pg_verify.specs.Reached.{HasTooManyStates}
 use Rattle.pg_verify.specs.Verdicts.{Says}
 use Rattle.pg_verify.specs.declared.verdict.Verdict.{Verdict}
@@ -90,6 +91,16 @@ IsUntied by_place fault a second = (given : Circuit) × (symbols : List Symbol) 
 abbrev pub IsPair : Parting → Bool → (Automaton → Circuit → Type 0) → Type 0
 IsPair Parts by_place P = (a : Automaton) × (given : Circuit) × (tied : Circuit) × ArePaired Parts by_place a given tied × P a tied
 
+-- The vertex of the game of their product with this identifier is the least at which a map of this game and one of its dual, both of the
+-- kind, are both top.
+pub record IsUndecidedOn (Kind : MapKind) (a : Automaton) (circuit : Circuit) (id : ℕ) : Type 0 where
+  pub product : Automaton
+  pub product_of : IsProductOf a circuit product
+  pub game : List GameVertex
+  pub game_of : IsGameOfAutomaton product game
+  pub limits : IsWithinLimits game
+  pub undecided : IsUndecidedIn Kind game id
+
 -- Why an input has no such output: there aren't two texts; the first spells no automaton, or the second no circuit; the circuit has not the
 -- automaton's propositions, or contradicts itself; or it is too large beside the automaton, or both maps are top at some vertex of their game.
 abbrev pub RefusesVerify : MapKind → Parting → Bool → CliFault → Type 0
@@ -100,5 +111,5 @@ RefusesVerify Kind Parts by_place (Tie fault) = FailsSecondText Parts (IsUntied 
 RefusesVerify Kind Parts by_place (Netlist fault) = IsPair Parts by_place (λ a tied. IsFaultOf tied fault)
 RefusesVerify Kind Parts by_place (Verify verify.TooLarge) = IsPair Parts by_place (λ a tied. IsAcyclic tied × HasTooManyStates a tied)
 RefusesVerify Kind Parts by_place (Synth synth.TooLarge) = IsPair Parts by_place (λ a tied. IsAcyclic tied × HasLargeGame a tied)
-RefusesVerify Kind Parts by_place (Undecided id) = (game : List GameVertex) × IsUndecidedIn Kind game id
+RefusesVerify Kind Parts by_place (Undecided id) = IsPair Parts by_place (λ a tied. IsAcyclic tied × IsUndecidedOn Kind a tied id)
 RefusesVerify Kind Parts by_place _ = ⊥

@@ -11,6 +11,7 @@ mod input;
 pub mod laws;
 mod means;
 mod measure;
+mod memory;
 mod output;
 mod parts;
 mod printing;
@@ -28,6 +29,7 @@ mod world_output;
 
 pub use fault::{CliFault, exit_code, write_fault};
 pub use input::{MOST_BYTES, read_input};
+pub use memory::in_memory;
 pub use parts::part_texts;
 pub use pg_cli_words::Command;
 pub use program::{

@@ -1,9 +1,9 @@
 //! Answers that are written to memory.
 
 ghost use Rattle.std.specs.Prelude.{◌≡◌};
-ghost use Rattle.pg_cli.specs.InMemory.{in_memory};
+ghost use Rattle.pg_cli_command.specs.InMemory.{in_memory};
 
-use pg_cli_command::CliFault;
+use crate::fault::CliFault;
 
 /// What was written to memory, if it was written; and else why not. A write to memory fails only where memory runs out; any other fault
 /// is handed on.

@@ -21,6 +21,7 @@ use crate::game::game;
 use crate::input::{MOST_BYTES, read_input};
 use crate::means::means;
 use crate::measure::measure;
+use crate::memory::in_memory;
 use crate::parts::Texts;
 use crate::printing::print;
 use crate::refute::refute;
@@ -101,12 +102,8 @@ pub fn check_texts(alloc: Global, first: Vec<u8>, second: Vec<u8>) -> Result<Vec
         (fault ≡ CliFault.OutOfMemory) ⊎ RefusesCheck (AreApart first.items second.items) fault) }
 {
     let mut output = Vec::new(alloc);
-    match print(check(alloc, Texts::Apart(first, second)), &mut output) {
-        Ok(()) => Ok(output),
-        // A write to memory fails only if it runs out.
-        Err(CliFault::Write) => Err(CliFault::OutOfMemory),
-        Err(fault) => Err(fault),
-    }
+    let written = print(check(alloc, Texts::Apart(first, second)), &mut output);
+    in_memory(written, output)
 }
 
 /// Returns what `verify` prints for an automaton and a circuit, given as two texts; they need no line `--`. Fails with
@@ -124,15 +121,9 @@ pub fn verify_texts<F: Solver>(
         ⊎ RefusesVerify (F.finds solver.old) (AreApart first.items second.items) by_place fault) }
 {
     let mut output = Vec::new(alloc);
-    match print(
-        verify(alloc, Texts::Apart(first, second), by_place, solver),
-        &mut output,
-    ) {
-        Ok(()) => Ok(output),
-        // A write to memory fails only where memory runs out.
-        Err(CliFault::Write) => Err(CliFault::OutOfMemory),
-        Err(fault) => Err(fault),
-    }
+    let worked_out = verify(alloc, Texts::Apart(first, second), by_place, solver);
+    let written = print(worked_out, &mut output);
+    in_memory(written, output)
 }
 
 /// Returns what `verify --environment` prints for an automaton and a circuit that plays the environment, given as two texts. Fails as
@@ -149,15 +140,9 @@ pub fn refute_texts<F: Solver>(
         ⊎ RefusesRefute (F.finds solver.old) (AreApart first.items second.items) by_place fault) }
 {
     let mut output = Vec::new(alloc);
-    match print(
-        refute(alloc, Texts::Apart(first, second), by_place, solver),
-        &mut output,
-    ) {
-        Ok(()) => Ok(output),
-        // A write to memory fails only if it runs out.
-        Err(CliFault::Write) => Err(CliFault::OutOfMemory),
-        Err(fault) => Err(fault),
-    }
+    let worked_out = refute(alloc, Texts::Apart(first, second), by_place, solver);
+    let written = print(worked_out, &mut output);
+    in_memory(written, output)
 }
 
 /// Returns what `means` prints for an automaton and a formula, given as two texts; they need no line `--`. Fails with `Hoa` for the first
@@ -168,12 +153,8 @@ pub fn means_texts(alloc: Global, first: Vec<u8>, second: Vec<u8>) -> Result<Vec
         (fault ≡ CliFault.OutOfMemory) ⊎ RefusesMeans (AreApart first.items second.items) fault) }
 {
     let mut output = Vec::new(alloc);
-    match print(means(alloc, Texts::Apart(first, second)), &mut output) {
-        Ok(()) => Ok(output),
-        // A write to memory fails only if it runs out.
-        Err(CliFault::Write) => Err(CliFault::OutOfMemory),
-        Err(fault) => Err(fault),
-    }
+    let written = print(means(alloc, Texts::Apart(first, second)), &mut output);
+    in_memory(written, output)
 }
 
 /// Writes what `replay` prints for a game and a script, given as two texts; they need no line `--`. Fails with `Text`,

@@ -9,7 +9,7 @@ pub fn measures_tell_winners()
     pg_check_determined::laws::least_tells_winners();
 }
 
-/// If the maps are the least progress measures, no vertex is undecided, so neither `solve` nor `synth` fails with
+/// If the maps are the least progress measures, no vertex is undecided, so neither `solve`, `synth` nor `verify` fails with
 /// `Undecided`.
 pub fn none_undecided()
     ensures { NoneUndecided }

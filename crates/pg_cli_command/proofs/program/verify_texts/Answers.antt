@@ -1,6 +1,17 @@
-use Rattle.pg_cli_command.proofs.Outcomes.{shown}
+use Rattle.pg_cli_command.proofs.Common.{sym, subst, IfOk, IfErr, CliFault, ◌⊎◌, ◌≡◌}
+use Rattle.pg_cli_command.specs.Parts.{AreApart}
+use Rattle.pg_cli_command.specs.Verifying.{IsVerified, RefusesVerify}
+use Rattle.pg_cli_command.specs.declared.fault.CliFault.TheVariants.{OutOfMemory}
+use Rattle.pg_cli_command.proofs.Outcomes.{shown_in_memory, refused_in_memory}
 use Rattle.pg_cli_command.proofs.program.verify_texts.Goals as goal
 
-pub returns-in-Ok-clause-answer : goal.returns-in-Ok-clause-answer
-returns-in-Ok-clause-answer g c =
-    shown _ _ c.new-output.result.items c.print.new.writer.items _ c.new-output.ensures.items c.verify.ensures.answer c.in-Ok.ensures.written
+pub returns-clause-answer : goal.returns-clause-answer
+returns-clause-answer g c =
+    subst (λ r. IfOk r (λ o. IsVerified (AreApart c.args.first.items c.args.second.items) c.args.by_place o.items)) (sym c.in_memory.ensures)
+    (shown_in_memory _ _ (λ o. o.items) c.new-output.result.items c.print-written.new.writer _ _ c.new-output.ensures.items c.verify-worked_out.ensures.answer
+    c.print-written.ensures.written)
+
+pub returns-clause-refused : goal.returns-clause-refused
+returns-clause-refused g c =
+    subst (λ r. IfErr r (λ fault. (fault ≡ OutOfMemory) ⊎ RefusesVerify (g.F.Solver.finds c.args.solver.now) (AreApart c.args.first.items c.args.second.items) c.args.by_place fault)) (sym c.in_memory.ensures)
+    (refused_in_memory _ c.print-written.new.writer _ _ c.verify-worked_out.ensures.refused c.print-written.ensures.refused)

@@ -28,7 +28,8 @@ returns-in_err-solution-clause-refused g c =
     let fault = c.in_err-solution.field-0.0 in
     refused_by (IsUnlooked Kind c.args.automaton.now c.args.netlist.now) c.from_residual-in_err-solution.result fault
     c.from_residual-in_err-solution.ensures.1
-    (game_unsolved Kind c.args.automaton.now c.args.netlist.now c.in_ok-made.made.game fault c.in_err-solution.ensures.refused)
+    (game_unsolved Kind c.args.automaton.now c.in_ok-product.product c.args.netlist.now c.in_ok-made.made.game c.in_ok-made.made.initial fault
+    c.in_ok-product.ensures.product c.in_ok-made.ensures.game c.in_err-solution.ensures.refused)
 
 pub returns-clause-says : goal.returns-clause-says
 returns-clause-says g c = λ condition fits.
