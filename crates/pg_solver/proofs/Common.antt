@@ -11,7 +11,7 @@ pub use Rattle.pg_arena.specs.declared.player.Player.{Player}
 pub use Rattle.pg_arena.specs.declared.player.Player.TheVariants.{Even, Odd}
 pub use Rattle.pg_map_claims.specs.Known.{known_map}
 pub use Rattle.pg_map_lift.specs.Mirrors.Lifters.{LifterValue, Lifts}
-pub use Rattle.pg_map_lift.specs.Mirrors.Zeros.{IsAtZero}
+pub use Rattle.pg_solver.specs.Mirrors.Zeros.{IsAtZero}
 pub use Rattle.pg_map.proofs.Above.{fits_at, lift_stays_under, stays_trans}
 pub use Rattle.pg_map.proofs.Duals.{dual_at, dual_held, held_dual}
 pub use Rattle.pg_map.proofs.Joins.{at_most_top, zero_map_least}

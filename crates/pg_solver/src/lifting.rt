@@ -3,7 +3,7 @@
 ghost use Rattle.std.specs.Prelude.{◌≡◌, ◌<◌, length, IfOk};
 ghost use Rattle.pg_map.specs.Lines.{AreWithin};
 ghost use Rattle.pg_map.specs.Maps.{IsLeastProgressMeasure};
-ghost use Rattle.pg_map_lift.specs.Mirrors.Zeros.{IsAtZero};
+ghost use Rattle.pg_solver.specs.Mirrors.Zeros.{IsAtZero};
 
 use pg_map::{Lines, MeasureMap};
 use pg_map_lift::Lifter;
