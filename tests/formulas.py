@@ -2,6 +2,7 @@
 and the place to which its end leads back; a letter is the set of the names that hold. What `automaton` prints accepts just the words that
 satisfy the formula, on words that are drawn. What `means` answers of automata that are printed, changed or drawn is so: on the word that
 tells them apart they differ as it says, and where it says SAME they agree on words that are drawn."""
+import functools
 import json
 import random
 import subprocess
@@ -197,6 +198,26 @@ def translations(program):
         said = meant(program, ran.stdout.decode(), spelt(formula))
         why = why or (None if said == (0, "SAME\n", "") else f"{spelt(formula)}: means says {said}")
     yield "random formulas", why
+
+
+def joined(infix, formulas):
+    return functools.reduce(lambda f, g: (infix, f, g), formulas)
+
+
+def repetitive(program):
+    """Formulas that say little in many words: the automata that are printed accept just the words that satisfy them, and `means` says so."""
+    dice, names = random.Random(7), [f"p{i}" for i in range(10)]
+    answered = ("G", ("->", ("p", "a"), ("F", ("p", "b"))))
+    recurs, lasts = ([(outer, (inner, ("p", name))) for name in names] for outer, inner in ("GF", "FG"))
+    for label, formula, used in (("one of ten recurs", joined("|", recurs), names), ("ten last", joined("&", lasts), names),
+                                 ("an answer, 100 times", joined("&", [answered] * 100), ["a", "b"]),
+                                 ("G F, 50 times", functools.reduce(lambda f, op: (op, f), "FG" * 50, ("p", "a")), ["a"])):
+        ran = translated(program, spelt(formula))
+        yield f"{label}: printed", (ran.returncode, ran.stderr), (0, b"")
+        automaton = read_automaton(ran.stdout)
+        words = [random_word(dice, used) for _ in range(200)]
+        yield label, [accepts(automaton, *word) for word in words], [satisfies(formula, *word) for word in words]
+        yield f"{label}: means", meant(program, ran.stdout.decode(), spelt(formula)), (0, "SAME\n", "")
 
 
 def changes(program):
@@ -406,4 +427,4 @@ def figures(program):
         yield f"names of the figures of {text}", tuple(found), COUNTED
 
 
-Tests = case.tests(__name__, translations, changes, specifications, verdicts, spellings, refusals, figures)
+Tests = case.tests(__name__, translations, repetitive, changes, specifications, verdicts, spellings, refusals, figures)

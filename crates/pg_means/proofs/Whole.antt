@@ -12,8 +12,9 @@ use Rattle.pg_means_look.specs.Automata as complete
 use Rattle.pg_means_look.specs.Certificates.{Certificate, IsEmptyBy}
 use Rattle.pg_means_look.specs.Lassos.{lasso}
 use Rattle.pg_means_look.specs.Mirrors.Places.{IsShown}
-use Rattle.pg_means_look.proofs.Meaning.{meaning}
+use Rattle.pg_means_look.proofs.Ranking.{between}
 use Rattle.pg_means.specs.Priorities.{IsCompleted}
+use Rattle.pg_means.specs.Mirrors.Simplified.{SayTheSame}
 use Rattle.pg_means.specs.Verdicts.{IsWordOver, holds_at, IsSatisfied, AreSame, AreApart}
 use Rattle.pg_means.proofs.Alike.{accepted_alike}
 
@@ -35,10 +36,14 @@ module _ (a : Automaton) (condition : conditions.Formula) (propositions : ℕ) (
   satisfied_from : (word : ℕ → ℕ) → IsWordOver propositions word → IsSatisfied places f word → Satisfies (λ t. b.on (word t)) f 0
   satisfied_from word inside = subst (λ (w : ℕ → ℕ → Bool). Satisfies w f 0) (sym (same_word word inside))
 
-  pub same_by : (first second : Certificate) → IsEmptyBy b (normal false f) 0 first → IsEmptyBy b (normal true f) 1 second
-      → AreSame a condition propositions places f
-  same_by first second one two word inside =
-      let means = meaning b f first second word completed.bounded one two (to_complete word inside) in
+  pub same_by : (negative positive : NormalForm) (first second : Certificate) → SayTheSame negative (normal false f) → SayTheSame positive (normal true f)
+      → IsEmptyBy b negative 0 first → IsEmptyBy b positive 1 second → AreSame a condition propositions places f
+  same_by negative positive first second negative_same positive_same one two word inside =
+      let seen : ℕ → ℕ → Bool = λ t. b.on (word t) in
+      let normal_is = normality seen f 0 in
+      let means = between b positive negative first second word (Satisfies seen f 0) completed.bounded one two (to_complete word inside)
+      (λ s. positive_same.from seen 0 (normal_is.yes.0 s), λ h. normal_is.yes.1 (positive_same.to seen 0 h))
+      (λ n. negative_same.from seen 0 (normal_is.no.0 n), λ h. normal_is.no.1 (negative_same.to seen 0 h)) in
       let alike = accepted_alike a propositions b word condition is completed fits inside in (
         λ accepted. satisfied_to word inside (means.0 (alike.0 accepted)),
         λ satisfied. alike.1 (means.1 (satisfied_from word inside satisfied)),
@@ -48,13 +53,12 @@ module _ (a : Automaton) (condition : conditions.Formula) (propositions : ℕ) (
     abbrev Word : ℕ → ℕ
     Word = lasso list back
 
-    pub apart_accepted : (form : NormalForm) → form ≡ normal false f → IsShown b form 0 list back
+    pub apart_accepted : (form : NormalForm) → SayTheSame form (normal false f) → IsShown b form 0 list back
         → AreApart a condition propositions places f true list back
-    apart_accepted form e shown =
+    apart_accepted form same shown =
         let inside = from_complete Word shown.within in
         let alike = accepted_alike a propositions b Word condition is completed fits inside in
-        let fails = (normality (λ t. b.on (Word t)) f 0).no.1
-        (subst (λ (g : NormalForm). IsShown b g 0 list back) e shown).holds in
+        let fails = (normality (λ t. b.on (Word t)) f 0).no.1 (same.to (λ t. b.on (Word t)) 0 shown.holds) in
         record {
           comes_round = shown.comes_round;
           within = inside;
@@ -62,13 +66,12 @@ module _ (a : Automaton) (condition : conditions.Formula) (propositions : ℕ) (
           satisfies = (λ says. absurd (true≢false says), λ satisfied. absurd (fails (satisfied_from Word inside satisfied)));
         }
 
-    pub apart_rejected : (form : NormalForm) → form ≡ normal true f → IsShown b form 1 list back
+    pub apart_rejected : (form : NormalForm) → SayTheSame form (normal true f) → IsShown b form 1 list back
         → AreApart a condition propositions places f false list back
-    apart_rejected form e shown =
+    apart_rejected form same shown =
         let inside = from_complete Word shown.within in
         let alike = accepted_alike a propositions b Word condition is completed fits inside in
-        let holds = (normality (λ t. b.on (Word t)) f 0).yes.1
-        (subst (λ (g : NormalForm). IsShown b g 1 list back) e shown).holds in
+        let holds = (normality (λ t. b.on (Word t)) f 0).yes.1 (same.to (λ t. b.on (Word t)) 0 shown.holds) in
         record {
           comes_round = shown.comes_round;
           within = inside;

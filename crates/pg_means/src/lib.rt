@@ -3,6 +3,7 @@
 
 mod completed;
 mod fault;
+mod simplified;
 mod size;
 mod verdict;
 

@@ -4,8 +4,9 @@ ghost use Rattle.std.specs.Prelude.{◌<◌, ◌≤◌, All};
 
 use crate::completed::completed;
 use crate::fault::MeansFault;
+use crate::simplified::simple_form;
 use pg_hoa_automaton::Automaton;
-use pg_ltl::{Formula, NormalForm, normal_form};
+use pg_ltl::{Formula, NormalForm};
 use pg_means_look::ParityAutomaton;
 use pg_means_search::{ProductSize, size_of};
 use std::alloc::Global;
@@ -42,9 +43,9 @@ pub fn sizes(
     requires places { All (λ place. place < propositions) places.now }
 {
     let complete = completed(alloc, automaton, propositions, places)?;
-    let no = normal_form(alloc, formula, false)?;
+    let no = simple_form(alloc, formula, false)?;
     let negation = size_with(alloc, &complete, &no, 0)?;
-    let yes = normal_form(alloc, formula, true)?;
+    let yes = simple_form(alloc, formula, true)?;
     let formula = size_with(alloc, &complete, &yes, 1)?;
     Ok(ProductSizes { negation, formula })
 }

@@ -11,8 +11,9 @@ ghost use Rattle.pg_means.specs.Verdicts.{Says};
 
 use crate::completed::completed;
 use crate::fault::MeansFault;
+use crate::simplified::simple_form;
 use pg_hoa_automaton::Automaton;
-use pg_ltl::{Formula, NormalForm, normal_form};
+use pg_ltl::{Formula, NormalForm};
 use pg_means_look::{ParityAutomaton, is_shown, shows_empty};
 use pg_means_search::{Lasso, Proposed, propose};
 use std::alloc::Global;
@@ -89,11 +90,11 @@ pub fn means(
     // asked for what its contract says of the automaton
     let _states = automaton.states();
     let complete = completed(alloc, automaton, propositions, places)?;
-    let no = normal_form(alloc, formula, false)?;
+    let no = simple_form(alloc, formula, false)?;
     if let Some(lasso) = word_of(alloc, &complete, &no, 0)? {
         return Ok(Verdict::Differs(true, lasso.letters, lasso.back));
     }
-    let yes = normal_form(alloc, formula, true)?;
+    let yes = simple_form(alloc, formula, true)?;
     if let Some(lasso) = word_of(alloc, &complete, &yes, 1)? {
         return Ok(Verdict::Differs(false, lasso.letters, lasso.back));
     }

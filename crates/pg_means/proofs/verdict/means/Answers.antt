@@ -1,4 +1,3 @@
-use Rattle.std.proofs.Common.{subst}
 use Rattle.pg_ltl.specs.Mirrors.Views.{written, form}
 use Rattle.pg_means_look.specs.Certificates.{Certificate, IsEmptyBy}
 use Rattle.pg_means_look.specs.Mirrors.Views.{automaton_of}
@@ -32,6 +31,5 @@ returns c condition fits =
     let none-2 = first_of c.in_ok-lasso-2.field-0 ((cert : Certificate) × IsEmptyBy complete (form c.in_ok-yes.yes) 1 cert)
     (λ lasso. IsShown complete (form c.in_ok-yes.yes) 1 lasso.letters.items lasso.back) c.in_default-2.not-Some c.in_ok-lasso-2.ensures in
     same_by c.args.automaton.now condition c.args.propositions c.args.places.now (written c.args.formula.now) complete c.states-states.ensures.automaton fits
-    c.in_ok-complete.ensures.completed c.in_ok-complete.ensures.truths none.0 none-2.0
-    (subst (λ f. IsEmptyBy complete f 0 none.0) c.in_ok-no.ensures none.1)
-    (subst (λ f. IsEmptyBy complete f 1 none-2.0) c.in_ok-yes.ensures none-2.1)
+    c.in_ok-complete.ensures.completed c.in_ok-complete.ensures.truths (form c.in_ok-no.no) (form c.in_ok-yes.yes) none.0 none-2.0
+    c.in_ok-no.ensures c.in_ok-yes.ensures none.1 none-2.1
