@@ -14,7 +14,7 @@ returns-in-NoProposition c = λ text why.
     let place = c.in-NoProposition.place in
     let parts = slice_split (λ b. b == 44) c.args.outs.now in
     let lacks : LacksOutput text (names_in c.args.outs.now) place = rw c.in-NoProposition.is at why in
-    let within : place < length parts = rw (← length-map parts trim) lacks.within in
+    let within : place < length parts = rw (← length-map parts trim) lacks.lacks.within in
     let split = c.split.ensures in
     let found = nth_from_yields_List c.nth.result c.nth.new.self place c.nth.ensures.ran
     (YieldsList-from_str_split 44 c.args.outs.now (lit< tt) split.text split.has_more split.pattern) in
