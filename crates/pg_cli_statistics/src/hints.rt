@@ -195,8 +195,12 @@ fn other_than(alloc: Global, text: &[u8], wanted: Kind) -> Option<&'static str> 
 fn on_circuit(text: &[u8], offset: usize) -> Option<&'static str> {
     let rest = text.get(offset..)?;
     match (text.starts_with(b"aag"), rest) {
-        (_, []) => Some("the text ends inside a circuit; each line ends with a newline, the last one too"),
-        (true, [b'\r', b'\n', ..]) => Some("lines end with a newline alone here; tr -d '\\r' removes the carriage returns"),
+        (_, []) => Some(
+            "the text ends inside a circuit; each line ends with a newline, the last one too",
+        ),
+        (true, [b'\r', b'\n', ..]) => Some(
+            "lines end with a newline alone here; tr -d '\\r' removes the carriage returns",
+        ),
         _ => None,
     }
 }
