@@ -1,7 +1,7 @@
 -- The formats of what stands in frames.
 use Rattle.pg_wire.proofs.Common.{◌≡◌, ℕ, ◌+◌, ◌^◌, ◌<◌, ◌≤◌, ◌⊎◌, Bool, true, false, cond, List, ◌∷◌, [], length, ◌++◌, Option, Ok, Err}
 use Rattle.pg_wire.proofs.Common.{Some, None, All, IfSome, ◌↔◌, nat_le, nat_lt, ◌&&◌, ◌||◌, refl, subst, arith, inl, inr, cases_lt, le-ltb}
-use Rattle.pg_wire.proofs.Common.{ltb-true, lt-ltb, leb-true, le-leb, eqb-true, eq-eqb, At, ValueKind, Dense, Sparse, word, IsFaultCode}
+use Rattle.pg_wire.proofs.Common.{ltb-true, lt-ltb, leb-true, le-leb, eqb-true, eq-eqb, ap, At, ValueKind, Dense, Sparse, word, IsFaultCode}
 use Rattle.pg_wire.proofs.Common.{IsComponents, Measured, spelled_as, falling, in_any_order, is_code, code_at, byte_at}
 use Rattle.pg_wire.specs.Spelling.{tagged}
 use Rattle.pg_wire.specs.Mirrors.Formats as formats
@@ -41,33 +41,30 @@ places_is width small = rising_is (λ low. then_is (within_is low width) (λ _ _
 from_zero : {A : Type 0} (key : A → ℕ) (xs : List A) → All (λ (x : A). 0 ≤ key x) xs
 from_zero key xs = λ i d lt. omega arith
 
+pub head_is : (low : ℕ) → IsForm (formats.line_head low)
+unfolding formats.line_head
+head_is low = then_is (number_is low) (λ _ _. then_is (within_is 0 65537) (λ _ _. then_is (byte_is 2) (λ _ _. number_is 1)))
+
 pub lines_is : IsKind formats.lines (2 ^ 32)
-unfolding formats.line
+unfolding formats.line formats.line_head
 lines_is = rising_is
-    (λ low. seen_is (then_is (number_is low) (λ _ _. then_is (within_is 0 65537) (λ _ _. then_is (byte_is 2)
-    (λ _ _. listed_is successors_is 1 (2 ^ 32) 0 (omega arith)))))
-    (λ p h. refl) (λ l h. refl)
+    (λ low. seen_is (then_is (head_is low) (λ h _. so_many_is successors_is h.1.1.1 0 (omega arith)))
+    (λ p h. ap (λ (n : ℕ). ((p.0.0, (p.0.1.0, (p.0.1.1.0, n))), p.1)) h.1.0) (λ l h. refl)
     (λ p h. (
-      h.0.0,
+      h.0.0.0,
       record {
-        vertex = h.0.1;
-        priority = omega (arith, h.1.0.1);
-        owner = omega (arith, h.1.1.0);
-        some = h.1.1.1.0.0;
-        countable = h.1.1.1.0.2;
-        successors = h.1.1.1.1.items;
-        rising = h.1.1.1.1.order;
+        vertex = h.0.0.1;
+        priority = omega (arith, h.0.1.0.1);
+        owner = omega (arith, h.0.1.1.0);
+        some = omega (arith, h.0.1.1.1.0, h.1.0);
+        countable = omega (arith, h.0.1.1.1.1, h.1.0);
+        successors = h.1.1.items;
+        rising = h.1.1.order;
       },
     ))
     (λ l h. (
-      (h.0, h.1.vertex),
-      (
-        (omega arith, omega (arith, h.1.priority), omega (arith, h.1.priority)),
-        (
-          omega (arith, h.1.owner),
-          ((h.1.some, h.1.countable, h.1.countable), record { stand = from_zero (λ n. n) l.successors; items = h.1.successors; order = h.1.rising }),
-        ),
-      ),
+      ((h.0, h.1.vertex), ((omega arith, omega (arith, h.1.priority), omega (arith, h.1.priority)), (omega (arith, h.1.owner), (h.1.some, h.1.countable)))),
+      (refl, record { stand = from_zero (λ n. n) l.successors; items = h.1.successors; order = h.1.rising }),
     )))
     (λ low l. refl) (λ low l h. h) (λ low l h. h) (λ l h. h.vertex)
 

@@ -1,14 +1,15 @@
 //! The kinds of lists in frames.
-ghost use Rattle.std.specs.Prelude.{◌+◌, ◌≤◌, ◌↔◌, IsTrue, IfOk, length};
-ghost use Rattle.pg_wire.specs.Mirrors.Reading.{Gives};
-ghost use Rattle.pg_wire.specs.Mirrors.Formats.{tagged, all_components, some_places};
+ghost use Rattle.std.specs.Prelude.{◌≡◌, ◌+◌, ◌^◌, ◌≤◌, ◌↔◌, IsTrue, IfOk, length};
+ghost use Rattle.pg_wire.specs.Mirrors.Reading.{Yields, both, within_at, byte_at};
+ghost use Rattle.pg_wire.specs.Mirrors.Formats.{line_head};
+ghost use Rattle.pg_wire.specs.Mirrors.Streaming.{counted_as};
 ghost use Rattle.pg_wire.specs.Well.{IsComponents, ArePlaces};
 
 use crate::fault::{FieldFault, ReadFault};
 use crate::fields::{WORDS, byte, odd, pair, within};
 use crate::form::{Form, are_ordered, counted, items, skip_counted, skip_items};
-use crate::frame::{SparseValue, Value, VertexLine};
-use crate::list::{Items, Numbers, Pairs};
+use crate::frame::{LineHead, SparseValue, Value, VertexLine};
+use crate::list::Items;
 use std::alloc::Global;
 
 /// The successors of a vertex, which rise.
@@ -179,6 +180,26 @@ impl Form for PlaceForm {
     ghost steps = { λ _. rising (λ p. p.0) };
 }
 
+/// What stands before the successors of a line, whose vertex is from a place on: its head, and how many successors
+/// there are.
+#[tactic(auto, unfolding(crate::specs::Mirrors::Formats::line_head))]
+#[inline(always)]
+pub fn head(place: u64, bytes: &[u8]) -> Result<(LineHead, u32, &[u8]), FieldFault>
+    ensures read { Yields (λ x. (counted_as x.0 x.1, x.2.now)) result ((line_head place).read bytes.now) }
+    ensures size { IfOk result (λ x. (1 ≤ x.1) × (13 + length x.2.now ≡ length bytes.now)) }
+{
+    let (vertex, rest) = within(place, WORDS, bytes)?;
+    let (priority, rest) = within(0, 65_537, rest)?;
+    let (owner, rest) = byte(2, rest)?;
+    let (count, rest) = within(1, WORDS, rest)?;
+    let head = LineHead {
+        vertex,
+        priority,
+        owner,
+    };
+    Ok((head, count, rest))
+}
+
 /// The lines of vertices, which rise.
 pub struct LineForm;
 
@@ -202,28 +223,22 @@ impl Form for LineForm {
         place: u64,
         bytes: &[u8],
     ) -> Result<(VertexLine, &[u8]), ReadFault> {
-        let (vertex, rest) = within(place, WORDS, bytes)?;
-        let (priority, rest) = within(0, 65_537, rest)?;
-        let (owner, rest) = byte(2, rest)?;
-        let (successors, rest) = counted::<SuccessorForm>(alloc, 0, 1, WORDS, 0, rest)?;
-        Ok((
-            VertexLine {
-                vertex,
-                priority,
-                owner,
-                successors,
-            },
-            rest,
-        ))
+        let (head, count, rest) = head(place, bytes)?;
+        let (successors, rest) = items::<SuccessorForm>(alloc, 0, count, 0, rest)?;
+        let line = VertexLine {
+            vertex: head.vertex,
+            priority: head.priority,
+            owner: head.owner,
+            successors: Items::new(successors),
+        };
+        Ok((line, rest))
     }
 
     #[tactic(auto, using(crate::proofs::Skip::passed, crate::proofs::Skip::refused), unfolding(crate::specs::Mirrors::Formats::line))]
     fn skip(_: u32, place: u64, bytes: &[u8]) -> Result<(u64, &[u8]), FieldFault> {
-        let (vertex, rest) = within(place, WORDS, bytes)?;
-        let (_, rest) = within(0, 65_537, rest)?;
-        let (_, rest) = byte(2, rest)?;
-        let rest = skip_counted::<SuccessorForm>(0, 1, WORDS, 0, rest)?;
-        Ok((vertex as u64 + 1, rest))
+        let (head, count, rest) = head(place, bytes)?;
+        let rest = skip_items::<SuccessorForm>(0, count, 0, rest)?;
+        Ok((head.vertex as u64 + 1, rest))
     }
 
     fn place_after_item(line: &VertexLine) -> u64 {
@@ -245,22 +260,15 @@ impl Form for LineForm {
     ghost steps = { λ _. rising (λ l. l.vertex) };
 }
 
-/// The list behind a tag, 0, in a frame of this width; behind 1 there is none.
-#[tactic(auto, unfolding(crate::specs::Mirrors::Reading::tagged_at))]
-fn components(
-    alloc: Global,
-    width: u32,
-    bytes: &[u8],
-) -> Result<(Option<Numbers>, &[u8]), ReadFault>
-    ensures read { Gives (λ x. (x.0, x.1.now)) result ((tagged (all_components width)).read bytes.now) }
-    ensures size { IfOk result (λ x. 1 + length x.1.now ≤ length bytes.now) }
+/// Reads the vertex of a measure, which is from a place on, and the tag after it: 0 if a list follows, 1 for top.
+#[inline(always)]
+pub fn value_head(place: u64, bytes: &[u8]) -> Result<(u32, u8, &[u8]), FieldFault>
+    ensures read { Yields (λ x. ((x.0, x.1), x.2.now)) result (both (within_at place (2 ^ 32)) (λ _. byte_at 2) bytes.now) }
+    ensures size { IfOk result (λ x. 5 + length x.2.now ≡ length bytes.now) }
 {
-    let (tag, rest) = byte(2, bytes)?;
-    if tag != 0 {
-        return Ok((None, rest));
-    }
-    let (numbers, rest) = items::<ComponentForm>(alloc, 0, width, 0, rest)?;
-    Ok((Some(Items::new(numbers)), rest))
+    let (vertex, rest) = within(place, WORDS, bytes)?;
+    let (tag, rest) = byte(2, rest)?;
+    Ok((vertex, tag, rest))
 }
 
 /// Whether a list has a number for each place of the width.
@@ -286,22 +294,25 @@ impl Form for ValueForm {
 
     ghost kind = { values };
 
-    #[tactic(auto, unfolding(crate::specs::Mirrors::Formats::value))]
+    #[tactic(auto, using(crate::proofs::Skip::head_read, crate::proofs::Skip::head_refused), unfolding(crate::specs::Mirrors::Formats::value, crate::specs::Mirrors::Reading::tagged_at))]
     fn read(
         alloc: Global,
         width: u32,
         place: u64,
         bytes: &[u8],
     ) -> Result<(Value, &[u8]), ReadFault> {
-        let (vertex, rest) = within(place, WORDS, bytes)?;
-        let (list, rest) = components(alloc, width, rest)?;
+        let (vertex, tag, rest) = value_head(place, bytes)?;
+        if tag != 0 {
+            return Ok((Value { vertex, list: None }, rest));
+        }
+        let (list, rest) = items::<ComponentForm>(alloc, 0, width, 0, rest)?;
+        let list = Some(Items::new(list));
         Ok((Value { vertex, list }, rest))
     }
 
-    #[tactic(auto, using(crate::proofs::Skip::passed, crate::proofs::Skip::refused), unfolding(crate::specs::Mirrors::Formats::value, crate::specs::Mirrors::Reading::tagged_at))]
+    #[tactic(auto, using(crate::proofs::Skip::passed, crate::proofs::Skip::refused, crate::proofs::Skip::head_read, crate::proofs::Skip::head_refused), unfolding(crate::specs::Mirrors::Formats::value, crate::specs::Mirrors::Reading::tagged_at))]
     fn skip(width: u32, place: u64, bytes: &[u8]) -> Result<(u64, &[u8]), FieldFault> {
-        let (vertex, rest) = within(place, WORDS, bytes)?;
-        let (tag, rest) = byte(2, rest)?;
+        let (vertex, tag, rest) = value_head(place, bytes)?;
         if tag != 0 {
             return Ok((vertex as u64 + 1, rest));
         }
@@ -324,20 +335,6 @@ impl Form for ValueForm {
     ghost some = { Prim.omega arith };
 
     ghost steps = { λ _. rising (λ v. v.vertex) };
-}
-
-/// The pairs behind a tag, 0, in a frame of this width; behind 1 there are none.
-#[tactic(auto, unfolding(crate::specs::Mirrors::Reading::tagged_at))]
-fn places(alloc: Global, width: u32, bytes: &[u8]) -> Result<(Option<Pairs>, &[u8]), ReadFault>
-    ensures read { Gives (λ x. (x.0, x.1.now)) result ((tagged (some_places width)).read bytes.now) }
-    ensures size { IfOk result (λ x. 1 + length x.1.now ≤ length bytes.now) }
-{
-    let (tag, rest) = byte(2, bytes)?;
-    if tag != 0 {
-        return Ok((None, rest));
-    }
-    let (pairs, rest) = counted::<PlaceForm>(alloc, width, 0, width as u64 + 1, 0, rest)?;
-    Ok((Some(pairs), rest))
 }
 
 /// Whether the places rise and are below the width.
@@ -363,22 +360,29 @@ impl Form for SparseValueForm {
 
     ghost kind = { sparse_values };
 
-    #[tactic(auto, unfolding(crate::specs::Mirrors::Formats::sparse_value))]
+    #[tactic(auto, using(crate::proofs::Skip::head_read, crate::proofs::Skip::head_refused), unfolding(crate::specs::Mirrors::Formats::sparse_value, crate::specs::Mirrors::Reading::tagged_at))]
     fn read(
         alloc: Global,
         width: u32,
         place: u64,
         bytes: &[u8],
     ) -> Result<(SparseValue, &[u8]), ReadFault> {
-        let (vertex, rest) = within(place, WORDS, bytes)?;
-        let (pairs, rest) = places(alloc, width, rest)?;
+        let (vertex, tag, rest) = value_head(place, bytes)?;
+        if tag != 0 {
+            let value = SparseValue {
+                vertex,
+                pairs: None,
+            };
+            return Ok((value, rest));
+        }
+        let (pairs, rest) = counted::<PlaceForm>(alloc, width, 0, width as u64 + 1, 0, rest)?;
+        let pairs = Some(pairs);
         Ok((SparseValue { vertex, pairs }, rest))
     }
 
-    #[tactic(auto, using(crate::proofs::Skip::passed, crate::proofs::Skip::refused), unfolding(crate::specs::Mirrors::Formats::sparse_value, crate::specs::Mirrors::Reading::tagged_at))]
+    #[tactic(auto, using(crate::proofs::Skip::passed, crate::proofs::Skip::refused, crate::proofs::Skip::head_read, crate::proofs::Skip::head_refused), unfolding(crate::specs::Mirrors::Formats::sparse_value, crate::specs::Mirrors::Reading::tagged_at))]
     fn skip(width: u32, place: u64, bytes: &[u8]) -> Result<(u64, &[u8]), FieldFault> {
-        let (vertex, rest) = within(place, WORDS, bytes)?;
-        let (tag, rest) = byte(2, rest)?;
+        let (vertex, tag, rest) = value_head(place, bytes)?;
         if tag != 0 {
             return Ok((vertex as u64 + 1, rest));
         }

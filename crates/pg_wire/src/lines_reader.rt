@@ -5,13 +5,11 @@ ghost use Rattle.pg_wire.specs.Spelling.{body};
 ghost use Rattle.pg_wire.specs.Well.{IsWell};
 ghost use Rattle.pg_wire.specs.Bytes.{Spells};
 ghost use Rattle.pg_wire.specs.Lines.{frame_with};
-ghost use Rattle.pg_wire.specs.Mirrors.Reading.{Yields};
-ghost use Rattle.pg_wire.specs.Mirrors.Streaming.{line_head, counted_as, AreLines};
+ghost use Rattle.pg_wire.specs.Mirrors.Streaming.{AreLines};
 
-use crate::fault::FieldFault;
-use crate::fields::{WORDS, byte, within};
+use crate::fields::{WORDS, within};
 use crate::form::skip_counted;
-use crate::forms::LineForm;
+use crate::forms::{LineForm, head};
 use crate::frame::LineHead;
 use crate::reader::read_numbers;
 use crate::reading::after_length;
@@ -21,26 +19,6 @@ use std::alloc::AllocError;
 #[derive(Clone, Copy)]
 pub struct VerticesReader<'a> {
     bytes: &'a [u8],
-}
-
-/// What stands before the successors of a line, whose vertex is from a place on: its head, and how many successors
-/// there are.
-#[tactic(auto, unfolding(crate::specs::Mirrors::Streaming::line_head))]
-#[inline(always)]
-fn head(place: u64, bytes: &[u8]) -> Result<(LineHead, u32, &[u8]), FieldFault>
-    ensures read { Yields (λ x. (counted_as x.0 x.1, x.2.now)) result ((line_head place).read bytes.now) }
-    ensures less { IfOk result (λ x. length x.2.now < length bytes.now) }
-{
-    let (vertex, rest) = within(place, WORDS, bytes)?;
-    let (priority, rest) = within(0, 65_537, rest)?;
-    let (owner, rest) = byte(2, rest)?;
-    let (count, rest) = within(1, WORDS, rest)?;
-    let head = LineHead {
-        vertex,
-        priority,
-        owner,
-    };
-    Ok((head, count, rest))
 }
 
 /// The bytes of the lines, where the bytes are the fields of a frame of vertices.

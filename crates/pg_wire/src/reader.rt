@@ -11,9 +11,9 @@ ghost use Rattle.pg_wire.specs.Mirrors.Formats.{all_components, so_many, places,
 ghost use Rattle.pg_wire.specs.Mirrors.Streaming.{measures_skipped, AreFields};
 
 use crate::fault::FieldFault;
-use crate::fields::{WORDS, byte, pair, within};
+use crate::fields::{WORDS, pair, within};
 use crate::form::skip_counted;
-use crate::forms::{SparseValueForm, ValueForm};
+use crate::forms::{SparseValueForm, ValueForm, value_head};
 use crate::kind::ValueKind;
 use crate::reading::after_length;
 
@@ -119,7 +119,7 @@ fn read_list<'a>(
 }
 
 /// The next vertex, whether its measure is top, and the bytes behind it; else the list is in the row.
-#[tactic(auto, unfolding(crate::specs::Mirrors::Formats::measured, crate::specs::Mirrors::Reading::tagged_at))]
+#[tactic(auto, using(crate::proofs::Skip::head_read, crate::proofs::Skip::head_refused), unfolding(crate::specs::Mirrors::Formats::measured, crate::specs::Mirrors::Reading::tagged_at))]
 #[inline(always)]
 fn read_value<'a>(
     kind: ValueKind,
@@ -133,8 +133,7 @@ fn read_value<'a>(
     ensures kept { IfOk result (λ x. x.1 ≡ true → row.new ≡ row.old) }
     ensures less { IfOk result (λ x. length x.2.now < length bytes.now) }
 {
-    let (vertex, rest) = within(0, WORDS, bytes)?;
-    let (tag, rest) = byte(2, rest)?;
+    let (vertex, tag, rest) = value_head(0, bytes)?;
     if tag != 0 {
         return Ok((vertex, true, rest));
     }

@@ -147,10 +147,17 @@ place width low = and_then (within low width) (λ _. number 1)
 abbrev pub places : ℕ → Kind (ℕ × ℕ)
 places width = rising (λ p. p.0) pair (IsPlace width) (λ low. (place width low).read)
 
+-- what stands before the successors of a line: its head, and how many successors there are
+abbrev pub Counted : Type 0
+Counted = ℕ × (ℕ × (ℕ × ℕ))
+
+unfoldable pub line_head : ℕ → Format Counted
+line_head low = and_then (number low) (λ _. and_then (within 0 65537) (λ _. and_then (byte 2) (λ _. number 1)))
+
 unfoldable pub line : ℕ → Format VertexLine
-line low = seen (λ p. record { vertex = p.0; priority = p.1.0; owner = p.1.1.0; successors = p.1.1.1 })
-    (λ l. (l.vertex, (l.priority, (l.owner, l.successors)))) (λ l. (low ≤ l.vertex) × IsVertexLine l)
-    (and_then (number low) (λ _. and_then (within 0 65537) (λ _. and_then (byte 2) (λ _. listed successors 1 (2 ^ 32) 0))))
+line low = seen (λ p. record { vertex = p.0.0; priority = p.0.1.0; owner = p.0.1.1.0; successors = p.1 })
+    (λ l. ((l.vertex, (l.priority, (l.owner, length l.successors))), l.successors)) (λ l. (low ≤ l.vertex) × IsVertexLine l)
+    (and_then (line_head low) (λ h. so_many successors h.1.1.1 0))
 
 abbrev pub lines : Kind VertexLine
 lines = rising (λ l. l.vertex) spelling.line IsVertexLine (λ low. (line low).read)

@@ -11,14 +11,7 @@ use Rattle.pg_wire.specs.Well.{IsWell}
 use Rattle.pg_wire.specs.Lines.{frame_with}
 use Rattle.pg_wire.specs.Measured.{Measured, IsMeasured, spelled_as, kind_number, frame_of}
 use Rattle.pg_wire.specs.Mirrors.Reading.{skipped}
-use Rattle.pg_wire.specs.Mirrors.Formats.{Format, and_then, within, number, byte, values_fields, sparse_fields}
-
--- what stands before the successors of a line: its head, and how many successors there are
-abbrev pub Counted : Type 0
-Counted = ℕ × (ℕ × (ℕ × ℕ))
-
-unfoldable pub line_head : ℕ → Format Counted
-line_head low = and_then (number low) (λ _. and_then (within 0 65537) (λ _. and_then (byte 2) (λ _. number 1)))
+use Rattle.pg_wire.specs.Mirrors.Formats.{Counted, values_fields, sparse_fields}
 
 abbrev pub counted_as : LineHead → ℕ → Counted
 counted_as head count = (head.vertex, (head.priority, (head.owner, count)))
