@@ -6,7 +6,7 @@ use Rattle.pg_wire.proofs.Common.{IsComponents, Measured, spelled_as, falling, i
 use Rattle.pg_wire.specs.Spelling.{tagged}
 use Rattle.pg_wire.specs.Mirrors.Formats as formats
 use Rattle.pg_wire.proofs.Grammar.{IsForm, IsKind, Begins, bind_ok, test_ok, and_both, then_is, seen_is, said_is, within_is, number_is, odd_is, byte_is}
-use Rattle.pg_wire.proofs.Grammar.{version_is, tagged_is, so_many_is, listed_is, rising_is}
+use Rattle.pg_wire.proofs.Grammar.{version_is, headed_is, so_many_is, listed_is, rising_is}
 use Rattle.pg_wire.proofs.Filling.{nonzero_filled, filled_nonzero, places_nonzero, components_filled}
 
 -- ---- what stands in lists
@@ -74,7 +74,7 @@ all_components_is width = said_is (so_many_is components_is width 0 (omega arith
 
 values_is : (width : ℕ) → IsKind (formats.values width) (2 ^ 32)
 unfolding formats.value
-values_is width = rising_is (λ low. seen_is (then_is (number_is low) (λ _ _. tagged_is (all_components_is width))) (λ p h. refl) (λ v h. refl)
+values_is width = rising_is (λ low. seen_is (headed_is (all_components_is width) low) (λ p h. refl) (λ v h. refl)
     (λ p h. (h.0.0, record { vertex = h.0.1; list = h.1 })) (λ v h. ((h.0, h.1.vertex), h.1.list)))
     (λ low v. refl) (λ low v h. h) (λ low v h. h) (λ v h. h.vertex)
 
@@ -86,7 +86,7 @@ some_places_is width small = said_is (listed_is (places_is width small) 0 (width
 sparse_values_is : (width : ℕ) → width < 2 ^ 31 → IsKind (formats.sparse_values width) (2 ^ 32)
 unfolding formats.sparse_value
 sparse_values_is width small = rising_is
-    (λ low. seen_is (then_is (number_is low) (λ _ _. tagged_is (some_places_is width (omega arith)))) (λ p h. refl) (λ v h. refl)
+    (λ low. seen_is (headed_is (some_places_is width (omega arith)) low) (λ p h. refl) (λ v h. refl)
     (λ p h. (h.0.0, record { vertex = h.0.1; pairs = h.1 })) (λ v h. ((h.0, h.1.vertex), h.1.pairs)))
     (λ low v. refl) (λ low v h. h) (λ low v h. h) (λ v h. h.vertex)
 
@@ -112,7 +112,7 @@ fits Sparse width o = (λ h. h, λ h. h)
 pub measures_is : (kind : ValueKind) (width : ℕ) → width < 2 ^ 32 → IsKind (formats.measures kind width) (2 ^ 32)
 unfolding formats.measured
 measures_is kind width small = rising_is
-    (λ low. then_is (number_is low) (λ _ _. tagged_is (measure_is kind width small))) (λ low m. spelt kind width m)
+    (λ low. headed_is (measure_is kind width small) low) (λ low m. spelt kind width m)
     (λ low m h. (h.0.0, record { vertex = h.0.1; list = (fits kind width m.1).0 h.1 })) (λ low m h. ((h.0, h.1.vertex), (fits kind width m.1).1 h.1.list))
     (λ m h. h.vertex)
 

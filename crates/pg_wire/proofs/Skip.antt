@@ -3,7 +3,7 @@ use Rattle.pg_wire.proofs.Common.{◌≡◌, ℕ, suc, ◌+◌, ◌-◌, ◌^◌
 use Rattle.pg_wire.proofs.Common.{sym, ap, subst, ◌∙◌, arith, flat_map, append-nil, FieldFault, VertexLine, Vertices, Frame, ValueKind}
 use Rattle.pg_wire.proofs.Common.{word, line, body, IsWell, frame_with, filled, spelled_as, kind_number, ◌>>=◌, Reader, made, skipped}
 use Rattle.pg_wire.proofs.Common.{items_at, within_at, Format, Kind, so_many, listed, lines, values, places, values_fields, sparse_fields}
-use Rattle.pg_wire.proofs.Common.{vertices_fields, measures_skipped, AreLines, AreFields, both, byte_at, ◌⊎◌, inl, inr}
+use Rattle.pg_wire.proofs.Common.{vertices_fields, measures_skipped, AreLines, AreFields}
 use Rattle.pg_wire.specs.declared.frame.Frame.TheVariants as frames
 use Rattle.pg_wire.specs.declared.kind.ValueKind.TheVariants as kinds
 use Rattle.pg_wire.proofs.Grammar.{IsForm, IsBytes, bind_ok, ok_is, within_is}
@@ -22,33 +22,6 @@ passed {A} r rest h =
 
 pub refused : {A : Type 0} (r : Result (A × List ℕ) FieldFault) (e : FieldFault) → (r >>= λ x. Ok x.1) ≡ Err e → r ≡ Err e
 refused {A} r e h = result_err r (λ (x : A × List ℕ). x.1) e h
-
--- the vertex of a measure and its tag are read one after the other
-abbrev head : ℕ → List ℕ → Result ((ℕ × ℕ) × List ℕ) FieldFault
-head low bytes = both (within_at low (2 ^ 32)) (λ _. byte_at 2) bytes
-
-pub head_read : (low : ℕ) (bytes rest : List ℕ) (vertex tag : ℕ) → head low bytes ≡ Ok ((vertex, tag), rest)
-    → (more : List ℕ) × (within_at low (2 ^ 32) bytes ≡ Ok (vertex, more)) × (byte_at 2 more ≡ Ok (tag, rest))
-head_read low bytes rest vertex tag h =
-    let wanted : (ℕ × ℕ) × List ℕ = ((vertex, tag), rest) in
-    let p = bind_ok (within_at low (2 ^ 32) bytes) (λ (a : ℕ × List ℕ). byte_at 2 a.1 >>= λ b. Ok ((a.0, b.0), b.1)) wanted h in
-    let q = bind_ok (byte_at 2 p.0.1) (λ (b : ℕ × List ℕ). Ok ((p.0.0, b.0), b.1)) wanted p.2 in
-    let found : (ℕ × ℕ) × List ℕ = ((p.0.0, q.0.0), q.0.1) in
-    let e = ok_is found wanted q.2 in
-    (p.0.1, p.1 ∙ ap (λ (y : (ℕ × ℕ) × List ℕ). Ok (y.0.0, p.0.1)) e, q.1 ∙ ap (λ (y : (ℕ × ℕ) × List ℕ). Ok (y.0.1, y.1)) e)
-
-either_err : {A B : Type 0} (r : Result A FieldFault) (f : A → Result B FieldFault) (e : FieldFault) → (r >>= f) ≡ Err e
-    → (r ≡ Err e) ⊎ ((x : A) × (r ≡ Ok x) × (f x ≡ Err e))
-either_err (Ok x) f e h = inr (x, refl, h)
-either_err (Err d) f e h = inl cc
-
-pub head_refused : (low : ℕ) (bytes : List ℕ) (e : FieldFault) → head low bytes ≡ Err e
-    → (within_at low (2 ^ 32) bytes ≡ Err e) ⊎ ((x : ℕ × List ℕ) × (within_at low (2 ^ 32) bytes ≡ Ok x) × (byte_at 2 x.1 ≡ Err e))
-head_refused low bytes e h =
-    elim (either_err (within_at low (2 ^ 32) bytes) (λ (a : ℕ × List ℕ). byte_at 2 a.1 >>= λ b. Ok ((a.0, b.0), b.1)) e h) [
-      | inl first ↦ inl first
-      | inr p ↦ inr (p.0, p.1, result_err (byte_at 2 p.0.1) (λ (b : ℕ × List ℕ). ((p.0.0, b.0), b.1)) e p.2)
-    ]
 
 made_ok : {A : Type 0} (f : A → ℕ) (read : Reader A) (bytes rest : List ℕ) (n : ℕ) → made f read bytes ≡ Ok (n, rest)
     → (x : A) × (read bytes ≡ Ok (x, rest)) × (f x ≡ n)

@@ -294,7 +294,7 @@ impl Form for ValueForm {
 
     ghost kind = { values };
 
-    #[tactic(auto, using(crate::proofs::Skip::head_read, crate::proofs::Skip::head_refused), unfolding(crate::specs::Mirrors::Formats::value, crate::specs::Mirrors::Reading::tagged_at))]
+    #[tactic(auto, unfolding(crate::specs::Mirrors::Formats::value, crate::specs::Mirrors::Reading::headed_at))]
     fn read(
         alloc: Global,
         width: u32,
@@ -310,7 +310,7 @@ impl Form for ValueForm {
         Ok((Value { vertex, list }, rest))
     }
 
-    #[tactic(auto, using(crate::proofs::Skip::passed, crate::proofs::Skip::refused, crate::proofs::Skip::head_read, crate::proofs::Skip::head_refused), unfolding(crate::specs::Mirrors::Formats::value, crate::specs::Mirrors::Reading::tagged_at))]
+    #[tactic(auto, using(crate::proofs::Skip::passed, crate::proofs::Skip::refused), unfolding(crate::specs::Mirrors::Formats::value, crate::specs::Mirrors::Reading::headed_at))]
     fn skip(width: u32, place: u64, bytes: &[u8]) -> Result<(u64, &[u8]), FieldFault> {
         let (vertex, tag, rest) = value_head(place, bytes)?;
         if tag != 0 {
@@ -360,7 +360,7 @@ impl Form for SparseValueForm {
 
     ghost kind = { sparse_values };
 
-    #[tactic(auto, using(crate::proofs::Skip::head_read, crate::proofs::Skip::head_refused), unfolding(crate::specs::Mirrors::Formats::sparse_value, crate::specs::Mirrors::Reading::tagged_at))]
+    #[tactic(auto, unfolding(crate::specs::Mirrors::Formats::sparse_value, crate::specs::Mirrors::Reading::headed_at))]
     fn read(
         alloc: Global,
         width: u32,
@@ -380,7 +380,7 @@ impl Form for SparseValueForm {
         Ok((SparseValue { vertex, pairs }, rest))
     }
 
-    #[tactic(auto, using(crate::proofs::Skip::passed, crate::proofs::Skip::refused, crate::proofs::Skip::head_read, crate::proofs::Skip::head_refused), unfolding(crate::specs::Mirrors::Formats::sparse_value, crate::specs::Mirrors::Reading::tagged_at))]
+    #[tactic(auto, using(crate::proofs::Skip::passed, crate::proofs::Skip::refused), unfolding(crate::specs::Mirrors::Formats::sparse_value, crate::specs::Mirrors::Reading::headed_at))]
     fn skip(width: u32, place: u64, bytes: &[u8]) -> Result<(u64, &[u8]), FieldFault> {
         let (vertex, tag, rest) = value_head(place, bytes)?;
         if tag != 0 {

@@ -119,7 +119,7 @@ fn read_list<'a>(
 }
 
 /// The next vertex, whether its measure is top, and the bytes behind it; else the list is in the row.
-#[tactic(auto, using(crate::proofs::Skip::head_read, crate::proofs::Skip::head_refused), unfolding(crate::specs::Mirrors::Formats::measured, crate::specs::Mirrors::Reading::tagged_at))]
+#[tactic(auto, unfolding(crate::specs::Mirrors::Formats::measured, crate::specs::Mirrors::Reading::headed_at))]
 #[inline(always)]
 fn read_value<'a>(
     kind: ValueKind,

@@ -23,7 +23,7 @@ use Rattle.pg_wire.specs.Measured.{Measured, IsMeasured, nonzero, filled, spelle
 use Rattle.pg_wire.specs.Well.{IsWord, IsBound, IsSetup, IsVertexLine, IsVertices, IsComponents, IsValue, IsValues, IsPlace, ArePlaces}
 use Rattle.pg_wire.specs.Well.{IsSparseValue, IsSparse, IsFaultCode, IsReport}
 use Rattle.pg_wire.specs.Mirrors.Ordered.{AreOrdered}
-use Rattle.pg_wire.specs.Mirrors.Reading.{◌>>=◌, Reader, both, made, within_at, odd_at, byte_at, version_at, code_at, items_at, counted_at, tagged_at}
+use Rattle.pg_wire.specs.Mirrors.Reading.{◌>>=◌, Reader, both, made, within_at, odd_at, byte_at, version_at, code_at, items_at, counted_at, headed_at}
 
 pub record Format (A : Type 0) : Type 1 where
   pub spelled : A → List ℕ
@@ -42,9 +42,6 @@ said Fits f = record { spelled = f.spelled; Fits = Fits; read = f.read }
 abbrev pub seen : {A B : Type 0} → (A → B) → (B → A) → (B → Type 0) → Format A → Format B
 seen make parts Fits f = record { spelled = λ b. f.spelled (parts b); Fits = Fits; read = made make f.read }
 
-abbrev pub tagged : {A : Type 0} → Format A → Format (Option A)
-tagged f = record { spelled = spelling.tagged f.spelled; Fits = λ o. IfSome o f.Fits; read = tagged_at f.read }
-
 -- ---- numbers and bytes
 
 -- a number from low on, below high
@@ -53,6 +50,14 @@ within low high = record { spelled = word; Fits = λ n. (low ≤ n) × (n < high
 
 abbrev pub number : ℕ → Format ℕ
 number low = said (λ n. (low ≤ n) × IsWord n) (within low (2 ^ 32))
+
+-- a vertex, from low on, and behind a tag what is told of it
+abbrev pub headed : {A : Type 0} → ℕ → Format A → Format (ℕ × Option A)
+headed low f = record {
+  spelled = λ p. word p.0 ++ spelling.tagged f.spelled p.1;
+  Fits = λ p. ((low ≤ p.0) × IsWord p.0) × IfSome p.1 f.Fits;
+  read = headed_at low f.read;
+}
 
 abbrev pub odd : ℕ → Format ℕ
 odd high = record { spelled = word; Fits = λ n. (n < high) × IsWord n × (n % 2 ≡ 1); read = odd_at high }
@@ -167,7 +172,7 @@ all_components width = said (IsComponents width) (so_many components width 0)
 
 unfoldable pub value : ℕ → ℕ → Format Value
 value width low = seen (λ p. record { vertex = p.0; list = p.1 }) (λ v. (v.vertex, v.list)) (λ v. (low ≤ v.vertex) × IsValue width v)
-    (and_then (number low) (λ _. tagged (all_components width)))
+    (headed low (all_components width))
 
 abbrev pub values : ℕ → Kind Value
 values width = rising (λ v. v.vertex) spelling.value (IsValue width) (λ low. (value width low).read)
@@ -177,7 +182,7 @@ some_places width = said (ArePlaces width) (listed (places width) 0 (width + 1) 
 
 unfoldable pub sparse_value : ℕ → ℕ → Format SparseValue
 sparse_value width low = seen (λ p. record { vertex = p.0; pairs = p.1 }) (λ v. (v.vertex, v.pairs)) (λ v. (low ≤ v.vertex) × IsSparseValue width v)
-    (and_then (number low) (λ _. tagged (some_places width)))
+    (headed low (some_places width))
 
 abbrev pub sparse_values : ℕ → Kind SparseValue
 sparse_values width = rising (λ v. v.vertex) spelling.sparse_value (IsSparseValue width) (λ low. (sparse_value width low).read)
@@ -189,7 +194,7 @@ measure Dense width = all_components width
 measure SparseKind width = seen (filled width) nonzero (IsComponents width) (some_places width)
 
 unfoldable pub measured : ValueKind → ℕ → ℕ → Format Measured
-measured kind width low = and_then (number low) (λ _. tagged (measure kind width))
+measured kind width low = headed low (measure kind width)
 
 abbrev pub measures : ValueKind → ℕ → Kind Measured
 measures kind width = rising (λ m. m.0) (spelled_as kind) (IsMeasured width) (λ low. (measured kind width low).read)
