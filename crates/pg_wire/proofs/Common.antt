@@ -32,7 +32,7 @@ pub use Rattle.pg_wire.specs.LinesWritten.{AreWriting}
 pub use Rattle.pg_wire.specs.Measured.{IsMeasured, Measured, TellsMeasures, component_in, dense_value, filled, frame_of, kind_number}
 pub use Rattle.pg_wire.specs.Measured.{nonzero, nonzero_from, sparse_form, spelled_as, told_sparse, told_values}
 pub use Rattle.pg_wire.specs.Mirrors.Buffers.{Extends}
-pub use Rattle.pg_wire.specs.Mirrors.Formats.{AreItems, Counted, Format, Kind, all_components, and_then, byte, components, headed, lines, listed, measured}
+pub use Rattle.pg_wire.specs.Mirrors.Formats.{AreItems, Counted, Format, Kind, all_components, and_then, byte, components, counted_as, headed, lines, listed, measured}
 pub use Rattle.pg_wire.specs.Mirrors.Formats.{nothing, number, odd, placed, places, rising, said, seen, so_many, values, version}
 pub use Rattle.pg_wire.specs.Mirrors.Formats.{within}
 unfoldable pub use Rattle.pg_wire.specs.Mirrors.Formats.{body_at, frame_at, go_fields, line_head, report_fields, setup_fields, sparse_fields}
@@ -41,7 +41,6 @@ pub use Rattle.pg_wire.specs.Mirrors.Lengths.{IsCounted}
 pub use Rattle.pg_wire.specs.Mirrors.Ordered.{Steps, falling, in_any_order}
 pub use Rattle.pg_wire.specs.Mirrors.Reading.{Fails, HasBytes, Reader, is_code, made, number_at, skipped, ◌>>=◌}
 unfoldable pub use Rattle.pg_wire.specs.Mirrors.Reading.{byte_at, code_at, counted_at, headed_at, items_at, odd_at, version_at, within_at}
-pub use Rattle.pg_wire.specs.Mirrors.Streaming.{AreFields, AreLines, counted_as, measures_skipped}
 pub use Rattle.pg_wire.specs.Spelling.{body, counted, line, longest, pair, sparse_value, spelling, value, word}
 pub use Rattle.pg_wire.specs.Well.{ArePlaces, IsBound, IsComponents, IsCountable, IsFaultCode, IsPlace, IsSetup, IsSparseValue, IsValue}
 pub use Rattle.pg_wire.specs.Well.{IsWell, IsWord}

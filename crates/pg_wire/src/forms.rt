@@ -1,8 +1,7 @@
 //! The kinds of lists in frames.
-ghost use Rattle.std.specs.Prelude.{◌≡◌, ◌+◌, ◌^◌, ◌≤◌, ◌↔◌, IsTrue, IfOk, length};
+ghost use Rattle.std.specs.Prelude.{◌^◌, ◌<◌, ◌↔◌, IsTrue, IfOk, length};
 ghost use Rattle.pg_wire.specs.Mirrors.Reading.{Yields, both, within_at, byte_at};
-ghost use Rattle.pg_wire.specs.Mirrors.Formats.{line_head};
-ghost use Rattle.pg_wire.specs.Mirrors.Streaming.{counted_as};
+ghost use Rattle.pg_wire.specs.Mirrors.Formats.{line_head, counted_as};
 ghost use Rattle.pg_wire.specs.Well.{IsComponents, ArePlaces};
 
 use crate::fault::{FieldFault, ReadFault};
@@ -16,15 +15,10 @@ use std::alloc::Global;
 pub struct SuccessorForm;
 
 impl Form for SuccessorForm {
-    ghost use Rattle.std.proofs.Common.{arith};
     ghost use Rattle.pg_wire.specs.Mirrors.Ordered.{rising};
     ghost use Rattle.pg_wire.specs.Mirrors.Formats.{successors};
 
     type Item = u32;
-
-    ghost SIZE = { 4 };
-
-    const SIZE: usize = 4;
 
     ghost kind = { λ _. successors };
 
@@ -46,8 +40,6 @@ impl Form for SuccessorForm {
         place <= *item as u64
     }
 
-    ghost some = { Prim.omega arith };
-
     ghost steps = { λ _. rising (λ n. n) };
 }
 
@@ -55,15 +47,10 @@ impl Form for SuccessorForm {
 pub struct BoundForm;
 
 impl Form for BoundForm {
-    ghost use Rattle.std.proofs.Common.{arith};
     ghost use Rattle.pg_wire.specs.Mirrors.Ordered.{falling};
     ghost use Rattle.pg_wire.specs.Mirrors.Formats.{bounds};
 
     type Item = (u32, u32);
-
-    ghost SIZE = { 8 };
-
-    const SIZE: usize = 8;
 
     ghost kind = { λ _. bounds };
 
@@ -90,8 +77,6 @@ impl Form for BoundForm {
         (priority as u64) < place && priority % 2 == 1 && priority <= 65_535 && bound >= 1
     }
 
-    ghost some = { Prim.omega arith };
-
     ghost steps = { λ _. falling (λ p. p.0) };
 }
 
@@ -99,15 +84,10 @@ impl Form for BoundForm {
 pub struct ComponentForm;
 
 impl Form for ComponentForm {
-    ghost use Rattle.std.proofs.Common.{arith};
     ghost use Rattle.pg_wire.specs.Mirrors.Ordered.{in_any_order};
     ghost use Rattle.pg_wire.specs.Mirrors.Formats.{components};
 
     type Item = u32;
-
-    ghost SIZE = { 4 };
-
-    const SIZE: usize = 4;
 
     ghost kind = { λ _. components };
 
@@ -130,8 +110,6 @@ impl Form for ComponentForm {
         true
     }
 
-    ghost some = { Prim.omega arith };
-
     ghost steps = { λ _. in_any_order };
 }
 
@@ -139,15 +117,10 @@ impl Form for ComponentForm {
 pub struct PlaceForm;
 
 impl Form for PlaceForm {
-    ghost use Rattle.std.proofs.Common.{arith};
     ghost use Rattle.pg_wire.specs.Mirrors.Ordered.{rising};
     ghost use Rattle.pg_wire.specs.Mirrors.Formats.{places};
 
     type Item = (u32, u32);
-
-    ghost SIZE = { 8 };
-
-    const SIZE: usize = 8;
 
     ghost kind = { places };
 
@@ -175,8 +148,6 @@ impl Form for PlaceForm {
         place <= at as u64 && at < width && number >= 1
     }
 
-    ghost some = { Prim.omega arith };
-
     ghost steps = { λ _. rising (λ p. p.0) };
 }
 
@@ -186,7 +157,7 @@ impl Form for PlaceForm {
 #[inline(always)]
 pub fn head(place: u64, bytes: &[u8]) -> Result<(LineHead, u32, &[u8]), FieldFault>
     ensures read { Yields (λ x. (counted_as x.0 x.1, x.2.now)) result ((line_head place).read bytes.now) }
-    ensures size { IfOk result (λ x. (1 ≤ x.1) × (13 + length x.2.now ≡ length bytes.now)) }
+    ensures less { IfOk result (λ x. length x.2.now < length bytes.now) }
 {
     let (vertex, rest) = within(place, WORDS, bytes)?;
     let (priority, rest) = within(0, 65_537, rest)?;
@@ -204,15 +175,10 @@ pub fn head(place: u64, bytes: &[u8]) -> Result<(LineHead, u32, &[u8]), FieldFau
 pub struct LineForm;
 
 impl Form for LineForm {
-    ghost use Rattle.std.proofs.Common.{arith};
     ghost use Rattle.pg_wire.specs.Mirrors.Ordered.{rising};
     ghost use Rattle.pg_wire.specs.Mirrors.Formats.{lines};
 
     type Item = VertexLine;
-
-    ghost SIZE = { 17 };
-
-    const SIZE: usize = 17;
 
     ghost kind = { λ _. lines };
 
@@ -255,8 +221,6 @@ impl Form for LineForm {
             && are_ordered::<SuccessorForm>(0, 0, successors)
     }
 
-    ghost some = { Prim.omega arith };
-
     ghost steps = { λ _. rising (λ l. l.vertex) };
 }
 
@@ -264,7 +228,7 @@ impl Form for LineForm {
 #[inline(always)]
 pub fn value_head(place: u64, bytes: &[u8]) -> Result<(u32, u8, &[u8]), FieldFault>
     ensures read { Yields (λ x. ((x.0, x.1), x.2.now)) result (both (within_at place (2 ^ 32)) (λ _. byte_at 2) bytes.now) }
-    ensures size { IfOk result (λ x. 5 + length x.2.now ≡ length bytes.now) }
+    ensures less { IfOk result (λ x. length x.2.now < length bytes.now) }
 {
     let (vertex, rest) = within(place, WORDS, bytes)?;
     let (tag, rest) = byte(2, rest)?;
@@ -282,15 +246,10 @@ fn are_components(width: u32, numbers: &[u32]) -> bool
 pub struct ValueForm;
 
 impl Form for ValueForm {
-    ghost use Rattle.std.proofs.Common.{arith};
     ghost use Rattle.pg_wire.specs.Mirrors.Ordered.{rising};
     ghost use Rattle.pg_wire.specs.Mirrors.Formats.{values};
 
     type Item = Value;
-
-    ghost SIZE = { 5 };
-
-    const SIZE: usize = 5;
 
     ghost kind = { values };
 
@@ -332,8 +291,6 @@ impl Form for ValueForm {
         place <= item.vertex as u64 && fits
     }
 
-    ghost some = { Prim.omega arith };
-
     ghost steps = { λ _. rising (λ v. v.vertex) };
 }
 
@@ -348,15 +305,10 @@ fn are_places(width: u32, pairs: &[(u32, u32)]) -> bool
 pub struct SparseValueForm;
 
 impl Form for SparseValueForm {
-    ghost use Rattle.std.proofs.Common.{arith};
     ghost use Rattle.pg_wire.specs.Mirrors.Ordered.{rising};
     ghost use Rattle.pg_wire.specs.Mirrors.Formats.{sparse_values};
 
     type Item = SparseValue;
-
-    ghost SIZE = { 5 };
-
-    const SIZE: usize = 5;
 
     ghost kind = { sparse_values };
 
@@ -401,8 +353,6 @@ impl Form for SparseValueForm {
         };
         place <= item.vertex as u64 && fits
     }
-
-    ghost some = { Prim.omega arith };
 
     ghost steps = { λ _. rising (λ v. v.vertex) };
 }

@@ -1,21 +1,17 @@
 //! Reads the measures of a frame one after the other, from its bytes, without taking memory.
-ghost use Rattle.std.specs.Prelude.{◌≡◌, ◌≢◌, ◌+◌, ◌*◌, ◌≤◌, ◌<◌, ◌∷◌, List, Some, None, IfSome, IfOk, OnErr, length, cond, true};
+ghost use Rattle.std.specs.Prelude.{◌≡◌, ◌≢◌, ◌+◌, ◌*◌, ◌≤◌, ◌<◌, List, Some, None, IfSome, IfOk, OnErr, length, cond, true};
 ghost use Rattle.pg_wire.specs.declared.kind.ValueKind.{ValueKind};
 ghost use Rattle.pg_wire.specs.declared.frame.Frame.{Frame};
-ghost use Rattle.pg_wire.specs.Spelling.{body};
-ghost use Rattle.pg_wire.specs.Well.{IsWell};
 ghost use Rattle.pg_wire.specs.Bytes.{Spells};
 ghost use Rattle.pg_wire.specs.Measured.{Measured, filled, kind_number, frame_of, TellsMeasures};
 ghost use Rattle.pg_wire.specs.Mirrors.Reading.{Yields, made};
 ghost use Rattle.pg_wire.specs.Mirrors.Formats.{all_components, so_many, places, measure, measured};
-ghost use Rattle.pg_wire.specs.Mirrors.Streaming.{measures_skipped, AreFields};
 
 use crate::fault::FieldFault;
 use crate::fields::{WORDS, pair, within};
-use crate::form::skip_counted;
-use crate::forms::{SparseValueForm, ValueForm, value_head};
+use crate::forms::value_head;
 use crate::kind::ValueKind;
-use crate::reading::after_length;
+use crate::reading::body_of;
 
 /// The measures of a frame that are left.
 #[derive(Clone, Copy)]
@@ -23,38 +19,6 @@ pub struct ValuesReader<'a> {
     kind: ValueKind,
     width: u32,
     bytes: &'a [u8],
-}
-
-/// The bytes after the fields of a frame of measures. It takes no memory.
-#[tactic(auto, using(crate::proofs::Skip::passed, crate::proofs::Skip::refused), unfolding(crate::specs::Mirrors::Formats::values_fields, crate::specs::Mirrors::Formats::sparse_fields))]
-fn skip_fields(kind: ValueKind, bytes: &[u8]) -> Result<&[u8], FieldFault>
-    ensures { Yields (λ x. x.now) result (measures_skipped kind bytes.now) }
-{
-    let (width, rest) = within(0, 32_769, bytes)?;
-    match kind {
-        ValueKind::Dense => Ok(skip_counted::<ValueForm>(width, 0, WORDS, 0, rest)?),
-        ValueKind::Sparse => Ok(skip_counted::<SparseValueForm>(width, 0, WORDS, 0, rest)?),
-    }
-}
-
-/// The width and the bytes of the values, where the bytes are the fields of a frame of measures.
-fn fields(kind: ValueKind, bytes: &[u8]) -> Option<(u32, &[u8])>
-    ensures found { IfSome result (λ x. AreFields bytes.now kind x.0 x.1.now) }
-    ensures all { (f : Frame) → IsWell f → (kind_number kind ∷ bytes.now) ≡ body f → result ≢ None }
-{
-    let Ok(rest) = skip_fields(kind, bytes) else {
-        return None;
-    };
-    if !rest.is_empty() {
-        return None;
-    }
-    let Ok((width, list)) = within(0, 32_769, bytes) else {
-        return None;
-    };
-    let Ok((_, values)) = within(0, WORDS, list) else {
-        return None;
-    };
-    Some((width, values))
 }
 
 /// The next numbers, written into the row.
@@ -163,11 +127,16 @@ impl<'a> ValuesReader<'a> {
             × IsLeft r ms) }
         ensures all { (f : Frame) → TellsMeasures f → Spells f bytes.now → result ≢ None }
     {
-        match after_length(bytes)? {
+        match body_of(bytes)? {
             [] => None,
             [number, rest @ ..] => {
                 let kind = kind_of(*number)?;
-                let (width, bytes) = fields(kind, rest)?;
+                let Ok((width, list)) = within(0, WORDS, rest) else {
+                    return None;
+                };
+                let Ok((_, bytes)) = within(0, WORDS, list) else {
+                    return None;
+                };
                 Some(ValuesReader { kind, width, bytes })
             }
         }

@@ -5,6 +5,7 @@ use Rattle.std.specs.List.{flat_map}
 use Rattle.pg_wire.specs.declared.fault.FieldFault.{FieldFault}
 use Rattle.pg_wire.specs.declared.fault.FieldFault.TheVariants as faults
 use Rattle.pg_wire.specs.declared.frame.Setup.{Setup}
+use Rattle.pg_wire.specs.declared.frame.LineHead.{LineHead}
 use Rattle.pg_wire.specs.declared.frame.VertexLine.{VertexLine}
 use Rattle.pg_wire.specs.declared.frame.Vertices.{Vertices}
 use Rattle.pg_wire.specs.declared.frame.Value.{Value}
@@ -158,6 +159,9 @@ Counted = ℕ × (ℕ × (ℕ × ℕ))
 
 unfoldable pub line_head : ℕ → Format Counted
 line_head low = and_then (number low) (λ _. and_then (within 0 65537) (λ _. and_then (byte 2) (λ _. number 1)))
+
+abbrev pub counted_as : LineHead → ℕ → Counted
+counted_as head count = (head.vertex, (head.priority, (head.owner, count)))
 
 unfoldable pub line : ℕ → Format VertexLine
 line low = seen (λ p. record { vertex = p.0.0; priority = p.0.1.0; owner = p.0.1.1.0; successors = p.1 })
