@@ -1,7 +1,7 @@
 //! Reads frames from bytes.
 ghost use Rattle.std.specs.Prelude.{◌≡◌, ◌≢◌, ◌⊎◌, Ok, Err, IfOk, IfErr, IfSome, IfNone, ◌↔◌};
 ghost use Rattle.pg_wire.specs.Mirrors.Reading.{Yields, Gives, skipped};
-ghost use Rattle.pg_wire.specs.Mirrors.Formats.{frame_at, body_at};
+ghost use Rattle.pg_wire.specs.Mirrors.Formats.{setup_fields, frame_at, body_at};
 ghost use Rattle.pg_wire.specs.Mirrors.Lengths.{IsCounted};
 ghost use Rattle.pg_wire.specs.Spelling.{body};
 ghost use Rattle.pg_wire.specs.Well.{IsWell};
@@ -101,21 +101,30 @@ pub fn body_of(bytes: &[u8]) -> Option<&[u8]>
     }
 }
 
+/// Reads the fields of a set-up.
+#[tactic(auto, unfolding(crate::specs::Mirrors::Formats::setup_fields))]
+fn setup(alloc: Global, bytes: &[u8]) -> Result<(Setup, &[u8]), ReadFault>
+    ensures { Gives (λ x. (x.0, x.1.now)) result (setup_fields.read bytes.now) }
+{
+    let (version, rest) = version(bytes)?;
+    let (vertices, rest) = within(1, 1_048_577, rest)?;
+    let (bounds, rest) = counted::<BoundForm>(alloc, 0, 0, WORDS, 65_536, rest)?;
+    let setup = Setup {
+        version,
+        vertices,
+        bounds,
+    };
+    Ok((setup, rest))
+}
+
 /// Reads the fields of a frame of this kind.
-#[tactic(auto, unfolding(crate::specs::Mirrors::Formats::frame_at, crate::specs::Mirrors::Formats::setup_fields, crate::specs::Mirrors::Formats::vertices_fields, crate::specs::Mirrors::Formats::values_fields, crate::specs::Mirrors::Formats::sparse_fields, crate::specs::Mirrors::Formats::go_fields, crate::specs::Mirrors::Formats::report_fields))]
+#[tactic(auto, unfolding(crate::specs::Mirrors::Formats::frame_at, crate::specs::Mirrors::Formats::vertices_fields, crate::specs::Mirrors::Formats::values_fields, crate::specs::Mirrors::Formats::sparse_fields, crate::specs::Mirrors::Formats::go_fields, crate::specs::Mirrors::Formats::report_fields))]
 fn frame(alloc: Global, kind: u8, bytes: &[u8]) -> Result<(Frame, &[u8]), ReadFault>
     ensures { Gives (λ x. (x.0, x.1.now)) result (frame_at kind bytes.now) }
 {
     match kind {
         1 => {
-            let (version, rest) = version(bytes)?;
-            let (vertices, rest) = within(1, 1_048_577, rest)?;
-            let (bounds, rest) = counted::<BoundForm>(alloc, 0, 0, WORDS, 65_536, rest)?;
-            let setup = Setup {
-                version,
-                vertices,
-                bounds,
-            };
+            let (setup, rest) = setup(alloc, bytes)?;
             Ok((Frame::Setup(setup), rest))
         }
         2 => {
