@@ -61,6 +61,7 @@ pub fn items<F: Form>(
 }
 
 /// The bytes after so many items. It takes no memory.
+#[inline(always)]
 pub fn skip_items<F: Form>(
     width: u32,
     count: u32,
@@ -81,6 +82,7 @@ pub fn skip_items<F: Form>(
 
 /// The bytes after a count, from `least` on and below `high`, and as many items. It takes no memory.
 #[tactic(auto, unfolding(crate::specs::Mirrors::Reading::counted_at))]
+#[inline(always)]
 pub fn skip_counted<F: Form>(
     width: u32,
     least: u64,

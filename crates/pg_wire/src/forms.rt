@@ -201,6 +201,7 @@ impl Form for LineForm {
     }
 
     #[tactic(auto, using(crate::proofs::Skip::passed, crate::proofs::Skip::refused), unfolding(crate::specs::Mirrors::Formats::line))]
+    #[inline(always)]
     fn skip(_: u32, place: u64, bytes: &[u8]) -> Result<(u64, &[u8]), FieldFault> {
         let (head, count, rest) = head(place, bytes)?;
         let rest = skip_items::<SuccessorForm>(0, count, 0, rest)?;
@@ -270,6 +271,7 @@ impl Form for ValueForm {
     }
 
     #[tactic(auto, using(crate::proofs::Skip::passed, crate::proofs::Skip::refused), unfolding(crate::specs::Mirrors::Formats::value, crate::specs::Mirrors::Reading::headed_at))]
+    #[inline(always)]
     fn skip(width: u32, place: u64, bytes: &[u8]) -> Result<(u64, &[u8]), FieldFault> {
         let (vertex, tag, rest) = value_head(place, bytes)?;
         if tag != 0 {
@@ -333,6 +335,7 @@ impl Form for SparseValueForm {
     }
 
     #[tactic(auto, using(crate::proofs::Skip::passed, crate::proofs::Skip::refused), unfolding(crate::specs::Mirrors::Formats::sparse_value, crate::specs::Mirrors::Reading::headed_at))]
+    #[inline(always)]
     fn skip(width: u32, place: u64, bytes: &[u8]) -> Result<(u64, &[u8]), FieldFault> {
         let (vertex, tag, rest) = value_head(place, bytes)?;
         if tag != 0 {

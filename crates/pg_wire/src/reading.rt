@@ -38,6 +38,7 @@ pub fn after_length(bytes: &[u8]) -> Option<&[u8]>
 
 /// Returns the bytes after the fields of a frame of this kind. It takes no memory.
 #[tactic(auto, using(crate::proofs::Skip::passed, crate::proofs::Skip::refused), unfolding(crate::specs::Mirrors::Formats::frame_at, crate::specs::Mirrors::Formats::setup_fields, crate::specs::Mirrors::Formats::vertices_fields, crate::specs::Mirrors::Formats::values_fields, crate::specs::Mirrors::Formats::sparse_fields, crate::specs::Mirrors::Formats::go_fields, crate::specs::Mirrors::Formats::report_fields))]
+#[inline(always)]
 fn skip_fields(kind: u8, bytes: &[u8]) -> Result<&[u8], FieldFault>
     ensures { Yields (λ x. x.now) result (skipped (frame_at kind) bytes.now) }
 {
@@ -72,6 +73,7 @@ fn skip_fields(kind: u8, bytes: &[u8]) -> Result<&[u8], FieldFault>
 
 /// Finds the first fault in the bytes after a length, if they are the body of no frame. It takes no memory.
 #[tactic(auto, using(crate::proofs::Skip::passed, crate::proofs::Skip::refused), unfolding(crate::specs::Mirrors::Formats::body_at))]
+#[inline(always)]
 fn check_body(bytes: &[u8]) -> Result<(), FieldFault>
     ensures body { IfOk result (λ _. (f : Frame) × (body_at bytes.now ≡ Ok f)) }
     ensures fault { IfErr result (λ e. body_at bytes.now ≡ Err e) }
