@@ -77,9 +77,16 @@ class Edit:
 
 
 def name_of(path):
-    """The last name of a path, and that of its first argument: (`From`, `AllocError`) of `core::From<AllocError>`."""
-    found = re.match(r"\W*([\w:]+)(?:<([\w:]+))?", path)
-    return [(it or "").rpartition("::")[2] for it in found.groups()]
+    """The last name of a path, and that of its first argument: (`From`, `AllocError`) of `core::From<AllocError>`. A tuple has the names
+    of its parts: (`From`, `Tuple2U32Fault`) of `From<(u32, Fault)>`."""
+    found = re.match(r"\W*([\w:]+)(?:<([\w:]+|\([^()]*\)))?", path)
+    return [tuple_name(it) if it.startswith("(") else it.rpartition("::")[2] for it in found.groups("")]
+
+
+def tuple_name(kind):
+    """What the prover calls a tuple: `Tuple2U32Fault` for `(u32, Fault)`."""
+    parts = [it.strip().rpartition("::")[2] for it in kind.strip("()").split(",")]
+    return f"Tuple{len(parts)}" + "".join(it[0].upper() + it[1:] for it in parts)
 
 
 def impl_name(head):

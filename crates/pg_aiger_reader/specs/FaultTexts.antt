@@ -49,7 +49,7 @@ side_fault_text word (Shared place one other) =
     word ++ (codes " " ++ (decimal place ++ (codes " is named " ++ (name_text one.bytes.items ++ (codes " and " ++ name_text other.bytes.items)))))
 side_fault_text word (Nameless place) = word ++ (codes " " ++ (decimal place ++ codes " has no symbol"))
 side_fault_text word (Extra place name) =
-    codes "the circuit has an " ++ (word ++ (codes " more: " ++ (word ++ (codes " " ++ (decimal place ++ (codes ", named " ++ name_text name.bytes.items))))))
+    word ++ (codes " " ++ (decimal place ++ (codes " is named " ++ (name_text name.bytes.items ++ (codes ", but the automaton has no such " ++ word)))))
 side_fault_text word (Short name) = codes "the circuit has no " ++ (word ++ (codes " for " ++ name_text name.bytes.items))
 side_fault_text word (Long place) = codes "the circuit has an " ++ (word ++ (codes " more: " ++ (word ++ (codes " " ++ decimal place))))
 

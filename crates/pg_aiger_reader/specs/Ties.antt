@@ -21,12 +21,19 @@ pub record Gives (kind : Kind) (count : ℕ) (name : List ℕ) (place : ℕ) (s 
 abbrev pub IsNamed : Kind → ℕ → List Symbol → List ℕ → ℕ → Type 0
 IsNamed kind count symbols name place = (s : Symbol) × Contains symbols s × Gives kind count name place s
 
--- Each name has a place of its own, to which symbols give it, and to no other; no place is left.
+-- the symbol gives a place of the kind a name that none of these is
+pub record IsUnknown (kind : Kind) (count : ℕ) (names : List (List ℕ)) (s : Symbol) : Type 0 where
+  pub of_kind : s.kind ≡ kind
+  pub within : s.position < count
+  pub other : ¬ Contains names s.name
+
+-- Each name has a place of its own, to which symbols give it, and to no other; symbols give no other name, and no place is left.
 pub record AreNamed (kind : Kind) (count : ℕ) (symbols : List Symbol) (names : List (List ℕ)) (places : List ℕ) : Type 0 where
   pub all : length places ≡ length names
   pub named : (k : ℕ) → k < length names → IsNamed kind count symbols (get_or names k []) (get_or places k 0)
   pub nowhere_else : (k place : ℕ) → k < length names → IsNamed kind count symbols (get_or names k []) place → place ≡ get_or places k 0
   pub apart : AllPairs (λ p q. p ≢ q) places
+  pub known : (s : Symbol) → Contains symbols s → ¬ IsUnknown kind count names s
   pub none_left : (place : ℕ) → place < count → Contains places place
 
 -- the literals at these places
@@ -71,18 +78,19 @@ pub record IsLeft (kind : Kind) (count : ℕ) (symbols : List Symbol) (names : L
   pub left : (k : ℕ) → k < length names → ¬ IsNamed kind count symbols (get_or names k []) place
   pub before : (p : ℕ) → p < place → (k : ℕ) × (k < length names) × IsNamed kind count symbols (get_or names k []) p
 
--- the symbol is one of the place
-abbrev pub IsAt : Kind → ℕ → Symbol → Type 0
-IsAt kind place s = (s.kind ≡ kind) × (s.position ≡ place)
+-- this symbol is the first that is unknown
+abbrev pub IsFirstUnknown : Kind → ℕ → List (List ℕ) → List Symbol → Symbol → Type 0
+IsFirstUnknown kind count names [] s = ⊥
+IsFirstUnknown kind count names (first ∷ symbols) s =
+    (IsUnknown kind count names first × (first ≡ s)) ⊎ (¬ IsUnknown kind count names first × IsFirstUnknown kind count names symbols s)
 
--- the first symbol of the place gives it this name
-abbrev pub IsFirstName : Kind → ℕ → List Symbol → List ℕ → Type 0
-IsFirstName kind place [] name = ⊥
-IsFirstName kind place (s ∷ symbols) name =
-    (IsAt kind place s × (s.name ≡ name)) ⊎ (¬ IsAt kind place s × IsFirstName kind place symbols name)
+-- such a symbol gives this place this name
+abbrev pub HasUnknown : Kind → ℕ → List Symbol → List (List ℕ) → ℕ → List ℕ → Type 0
+HasUnknown kind count symbols names place name =
+    (s : Symbol) × IsFirstUnknown kind count names symbols s × (s.position ≡ place) × (s.name ≡ name)
 
--- Why the names, or so many places of the kind, are not tied: by symbols, the first name that has no place of its own, or else the first
--- place that has none of the names; or there are fewer places, or more, where they are taken as they stand.
+-- Why the names aren't tied to the places of a kind. By symbols: a name has no place of its own, the first such name; or else a symbol gives
+-- another name, the first such symbol; or else a place has no symbol, the first such place. By place: there are fewer places than names, or more.
 abbrev pub IsSideFault : Bool → Kind → ℕ → List Symbol → List (List ℕ) → SideFault → Type 0
 IsSideFault false kind count symbols names (Missing name) =
     (k : ℕ) × IsNext kind count symbols names k name.bytes.items × ((place : ℕ) → ¬ IsNamed kind count symbols name.bytes.items place)
@@ -93,9 +101,9 @@ IsSideFault false kind count symbols names (Shared place one other) =
     (k : ℕ) × IsNext kind count symbols names k other.bytes.items × IsOnlyAt kind count symbols other.bytes.items place
     × ((j : ℕ) × (j < k) × (get_or names j [] ≡ one.bytes.items) × IsNamed kind count symbols one.bytes.items place)
 IsSideFault false kind count symbols names (Nameless place) =
-    IsLeft kind count symbols names place × ((s : Symbol) → Contains symbols s → ¬ IsAt kind place s)
+    IsLeft kind count symbols names place × ((s : Symbol) → Contains symbols s → s.kind ≡ kind → s.position ≢ place)
 IsSideFault false kind count symbols names (Extra place name) =
-    IsLeft kind count symbols names place × IsFirstName kind place symbols name.bytes.items
+    ((k : ℕ) → k < length names → HasPlace kind count symbols names k) × HasUnknown kind count symbols names place name.bytes.items
 IsSideFault true kind count symbols names (Short name) = (count < length names) × (get_or names count [] ≡ name.bytes.items)
 IsSideFault true kind count symbols names (Long place) = (place ≡ length names) × (place < count)
 IsSideFault _ _ _ _ _ _ = ⊥

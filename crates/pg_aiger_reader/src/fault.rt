@@ -87,7 +87,7 @@ pub enum SideFault {
     Shared(usize, Name, Name),
     /// The input at this place has no name.
     Nameless(usize),
-    /// The input at this place has this name, and no proposition has it.
+    /// A symbol gives the input at this place this name, and no proposition has it.
     Extra(usize, Name),
     /// There are fewer inputs than propositions; this is the name of the first that is left.
     Short(Name),
@@ -121,7 +121,7 @@ impl SideFault {
             SideFault::Nameless(place) => write!(f, "{word} {place} has no symbol"),
             SideFault::Extra(place, name) => write!(
                 f,
-                "the circuit has an {word} more: {word} {place}, named {name}"
+                "{word} {place} is named {name}, but the automaton has no such {word}"
             ),
             SideFault::Short(name) => write!(f, "the circuit has no {word} for {name}"),
             SideFault::Long(place) => write!(f, "the circuit has an {word} more: {word} {place}"),

@@ -7,7 +7,7 @@ ghost use Rattle.pg_aiger.specs.Mirrors.Layouts.{names_until};
 ghost use Rattle.pg_hoa_automaton.specs.Automata.{IsAutomaton};
 ghost use Rattle.pg_aiger.specs.CircuitText.{latch};
 ghost use Rattle.pg_aiger.specs.CircuitText as text;
-ghost use Rattle.pg_aiger_reader.specs.Ties.{AreTied, IsTied, IsTieFault, IsSideFault, IsNameless, IsLeft, IsAt, IsFirstName, literals_at};
+ghost use Rattle.pg_aiger_reader.specs.Ties.{AreTied, IsTied, IsTieFault, IsSideFault, IsNameless, IsUnknown, IsFirstUnknown, literals_at};
 ghost use Rattle.pg_aiger_reader.specs.Mirrors.Places.{is_kind, noted, IsPlaceOf, AreGiven, texts};
 
 use crate::fault::{SideFault, TieFault};
@@ -111,40 +111,39 @@ fn left(places: &[usize], count: usize) -> Option<usize>
     None
 }
 
-/// Whether the symbol is one of the place.
-fn is_at(symbol: &Symbol<'_>, kind: Kind, place: usize) -> bool
-    ensures { result ≡ (is_kind (kind_in symbol.now.kind) (kind_in kind) && symbol.now.position == place) }
+/// Whether the symbol gives a place of the kind a name that none of the names is.
+fn is_unknown(kind: Kind, count: usize, names: &[&[u8]], symbol: &Symbol<'_>) -> bool
+    ensures { MatchBool result (IsUnknown (kind_in kind) count (texts names.now) (symbol_in symbol.now))
+        (¬ IsUnknown (kind_in kind) count (texts names.now) (symbol_in symbol.now)) }
 {
-    is_kind(symbol.kind, kind) && symbol.position as usize == place
+    if !is_kind(symbol.kind, kind) || symbol.position as usize >= count {
+        return false;
+    }
+    for k in 0..names.len() {
+        if names[k] == symbol.name {
+            return false;
+        }
+    }
+    true
 }
 
-/// The name that the first symbol of a place gives it.
-fn first_name<'a>(kind: Kind, symbols: &[Symbol<'a>], place: usize) -> Option<&'a [u8]>
-    ensures { MatchOption result ((s : text.Symbol) → Contains (map symbol_in symbols.now) s → ¬ IsAt (kind_in kind) place s)
-        (λ name. IsFirstName (kind_in kind) place (map symbol_in symbols.now) name.now) }
+/// The first symbol that gives a place of the kind a name that none of the names is.
+fn first_unknown<'a>(
+    kind: Kind,
+    count: usize,
+    names: &[&[u8]],
+    symbols: &[Symbol<'a>],
+) -> Option<Symbol<'a>>
+    ensures { MatchOption result
+        ((s : text.Symbol) → Contains (map symbol_in symbols.now) s → ¬ IsUnknown (kind_in kind) count (texts names.now) s)
+        (λ s. IsFirstUnknown (kind_in kind) count (texts names.now) (map symbol_in symbols.now) (symbol_in s)) }
 {
     for i in 0..symbols.len() {
-        if is_at(&symbols[i], kind, place) {
-            return Some(symbols[i].name);
+        if is_unknown(kind, count, names, &symbols[i]) {
+            return Some(symbols[i]);
         }
     }
     None
-}
-
-/// Why a place that no proposition has is too many.
-fn too_many(
-    alloc: Global,
-    kind: Kind,
-    symbols: &[Symbol<'_>],
-    place: usize,
-) -> Result<SideFault, AllocError>
-    ensures { (count : ℕ) (names : List (List ℕ)) → IsLeft (kind_in kind) count (map symbol_in symbols.now) names place
-        → IfOk result (IsSideFault false (kind_in kind) count (map symbol_in symbols.now) names) }
-{
-    match first_name(kind, symbols, place) {
-        None => Ok(SideFault::Nameless(place)),
-        Some(name) => Ok(SideFault::Extra(place, Name::of(alloc, name)?)),
-    }
 }
 
 /// The literals at these places.
@@ -171,12 +170,17 @@ fn by_symbols(
         (λ x. AreTied false (kind_in kind) (map symbol_in symbols.now) (texts names.now) literals.now x.items)
         (IsSideFault false (kind_in kind) (length literals.now) (map symbol_in symbols.now) (texts names.now))) }
 {
-    match places_of(alloc, kind, literals.len(), symbols, names)? {
-        Err(fault) => Ok(Err(fault)),
-        Ok(places) => match left(&places, literals.len()) {
-            Some(place) => Ok(Err(too_many(alloc, kind, symbols, place)?)),
-            None => Ok(Ok(selected(alloc, literals, &places)?)),
-        },
+    let places = match places_of(alloc, kind, literals.len(), symbols, names)? {
+        Ok(places) => places,
+        Err(fault) => return Ok(Err(fault)),
+    };
+    if let Some(symbol) = first_unknown(kind, literals.len(), names, symbols) {
+        let name = Name::of(alloc, symbol.name)?;
+        return Ok(Err(SideFault::Extra(symbol.position as usize, name)));
+    }
+    match left(&places, literals.len()) {
+        Some(place) => Ok(Err(SideFault::Nameless(place))),
+        None => Ok(Ok(selected(alloc, literals, &places)?)),
     }
 }
 
