@@ -1,4 +1,4 @@
--- Which input and which output of a circuit is which proposition of an automaton.
+-- How the inputs and outputs of a circuit match the propositions of an automaton.
 use Rattle.std.specs.Prelude.{◌≡◌, ◌≢◌, ◌⊎◌, ℕ, ◌+◌, ◌<◌, Bool, true, false, List, [], ◌∷◌, length, map, get_or, Contains}
 use Rattle.std.specs.List.{AllPairs}
 use Rattle.pg_hoa_automaton.specs.Automata.{Automaton}
@@ -10,7 +10,7 @@ use Rattle.pg_aiger_reader.specs.declared.fault.SideFault.TheVariants.{Missing, 
 use Rattle.pg_aiger_reader.specs.declared.fault.TieFault.{TieFault}
 use Rattle.pg_aiger_reader.specs.declared.fault.TieFault.TheVariants.{OutOfMemory, NoSymbols, Inputs, Outputs}
 
--- the symbol gives the name to what stands at this place, one of so many of the kind
+-- the symbol gives the name to this place, one of the first `count` of the kind
 pub record Gives (kind : Kind) (count : ℕ) (name : List ℕ) (place : ℕ) (s : Symbol) : Type 0 where
   pub of_kind : s.kind ≡ kind
   pub named : s.name ≡ name
@@ -21,7 +21,7 @@ pub record Gives (kind : Kind) (count : ℕ) (name : List ℕ) (place : ℕ) (s 
 abbrev pub IsNamed : Kind → ℕ → List Symbol → List ℕ → ℕ → Type 0
 IsNamed kind count symbols name place = (s : Symbol) × Contains symbols s × Gives kind count name place s
 
--- Each name has a place of its own, to which symbols give it, and to no other; no place is left.
+-- Each name has a place of its own: symbols give it to that place, and to no other. No place is left over.
 pub record AreNamed (kind : Kind) (count : ℕ) (symbols : List Symbol) (names : List (List ℕ)) (places : List ℕ) : Type 0 where
   pub all : length places ≡ length names
   pub named : (k : ℕ) → k < length names → IsNamed kind count symbols (get_or names k []) (get_or places k 0)
@@ -33,7 +33,7 @@ pub record AreNamed (kind : Kind) (count : ℕ) (symbols : List Symbol) (names :
 abbrev pub literals_at : List ℕ → List ℕ → List ℕ
 literals_at literals places = map (λ place. get_or literals place 0) places
 
--- the literals of these names in their order: by symbols, or as many in the order in which they stand
+-- the literals of these names in their order: by symbols, or else all literals as they are, if there are as many as names
 abbrev pub AreTied : Bool → Kind → List Symbol → List (List ℕ) → List ℕ → List ℕ → Type 0
 AreTied true kind symbols names literals tied = (length literals ≡ length names) × (tied ≡ literals)
 AreTied false kind symbols names literals tied =
@@ -52,13 +52,14 @@ abbrev pub IsOnlyAt : Kind → ℕ → List Symbol → List ℕ → ℕ → Type
 IsOnlyAt kind count symbols name place =
     IsNamed kind count symbols name place × ((other : ℕ) → IsNamed kind count symbols name other → other ≡ place)
 
--- the name at this position of the list has a place of its own: it is given to one, and no name before it is given to that
+-- the name at this position of the list has a place of its own: it is given to one place only, and no name before it is given to that
+-- place
 abbrev pub HasPlace : Kind → ℕ → List Symbol → List (List ℕ) → ℕ → Type 0
 HasPlace kind count symbols names k =
     (place : ℕ) × IsOnlyAt kind count symbols (get_or names k []) place
     × ((j : ℕ) → j < k → ¬ IsNamed kind count symbols (get_or names j []) place)
 
--- the name stands at this position of the list, and those before it have places of their own
+-- the name is at this position of the list, and the names before it have places of their own
 pub record IsNext (kind : Kind) (count : ℕ) (symbols : List Symbol) (names : List (List ℕ)) (k : ℕ) (name : List ℕ) : Type 0 where
   pub within : k < length names
   pub there : get_or names k [] ≡ name
@@ -71,7 +72,7 @@ pub record IsLeft (kind : Kind) (count : ℕ) (symbols : List Symbol) (names : L
   pub left : (k : ℕ) → k < length names → ¬ IsNamed kind count symbols (get_or names k []) place
   pub before : (p : ℕ) → p < place → (k : ℕ) × (k < length names) × IsNamed kind count symbols (get_or names k []) p
 
--- the symbol is one of the place
+-- the symbol names the place
 abbrev pub IsAt : Kind → ℕ → Symbol → Type 0
 IsAt kind place s = (s.kind ≡ kind) × (s.position ≡ place)
 
@@ -81,8 +82,8 @@ IsFirstName kind place [] name = ⊥
 IsFirstName kind place (s ∷ symbols) name =
     (IsAt kind place s × (s.name ≡ name)) ⊎ (¬ IsAt kind place s × IsFirstName kind place symbols name)
 
--- Why the names, or so many places of the kind, are not tied: by symbols, the first name that has no place of its own, or else the first
--- place that has none of the names; or there are fewer places, or more, where they are taken as they stand.
+-- Why the names and the `count` places of the kind don't match. By symbols, it is the first name that has no place of its own, or else
+-- the first place that has none of the names. By order, there are fewer places than names, or more.
 abbrev pub IsSideFault : Bool → Kind → ℕ → List Symbol → List (List ℕ) → SideFault → Type 0
 IsSideFault false kind count symbols names (Missing name) =
     (k : ℕ) × IsNext kind count symbols names k name.bytes.items × ((place : ℕ) → ¬ IsNamed kind count symbols name.bytes.items place)
@@ -100,13 +101,13 @@ IsSideFault true kind count symbols names (Short name) = (count < length names) 
 IsSideFault true kind count symbols names (Long place) = (place ≡ length names) × (place < count)
 IsSideFault _ _ _ _ _ _ = ⊥
 
--- names are asked for, there are inputs or outputs, and none of them has a name
+-- names are needed, there are inputs or outputs, and none of them has a name
 abbrev pub IsNameless : Bool → List ℕ → List ℕ → List Symbol → Type 0
 IsNameless true inputs outputs symbols = ⊥
 IsNameless false inputs outputs symbols =
     (0 < length inputs + length outputs) × ((s : Symbol) → Contains symbols s → s.kind ≡ latch)
 
--- inputs come first
+-- inputs are matched first
 abbrev pub IsTieFault : Bool → Automaton → Circuit → List Symbol → TieFault → Type 0
 IsTieFault by_place a circuit symbols OutOfMemory = Unit {0}
 IsTieFault by_place a circuit symbols NoSymbols = IsNameless by_place circuit.inputs circuit.outputs symbols
