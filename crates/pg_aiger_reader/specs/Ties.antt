@@ -1,4 +1,4 @@
--- Which input and which output of a circuit is which proposition of an automaton.
+-- How the inputs and outputs of a circuit match the propositions of an automaton.
 use Rattle.std.specs.Prelude.{◌≡◌, ◌≢◌, ◌⊎◌, ℕ, ◌+◌, ◌<◌, Bool, true, false, List, [], ◌∷◌, length, map, get_or, Contains}
 use Rattle.std.specs.List.{AllPairs}
 use Rattle.pg_hoa_automaton.specs.Automata.{Automaton}
@@ -10,7 +10,7 @@ use Rattle.pg_aiger_reader.specs.declared.fault.SideFault.TheVariants.{Missing, 
 use Rattle.pg_aiger_reader.specs.declared.fault.TieFault.{TieFault}
 use Rattle.pg_aiger_reader.specs.declared.fault.TieFault.TheVariants.{OutOfMemory, NoSymbols, Inputs, Outputs}
 
--- the symbol gives the name to what stands at this place, one of so many of the kind
+-- the symbol gives the name to this place, one of the first `count` of the kind
 pub record Gives (kind : Kind) (count : ℕ) (name : List ℕ) (place : ℕ) (s : Symbol) : Type 0 where
   pub of_kind : s.kind ≡ kind
   pub named : s.name ≡ name
@@ -21,13 +21,13 @@ pub record Gives (kind : Kind) (count : ℕ) (name : List ℕ) (place : ℕ) (s 
 abbrev pub IsNamed : Kind → ℕ → List Symbol → List ℕ → ℕ → Type 0
 IsNamed kind count symbols name place = (s : Symbol) × Contains symbols s × Gives kind count name place s
 
--- the symbol gives a place of the kind a name that none of these is
+-- the symbol gives a place of the kind a name that isn't among these
 pub record IsUnknown (kind : Kind) (count : ℕ) (names : List (List ℕ)) (s : Symbol) : Type 0 where
   pub of_kind : s.kind ≡ kind
   pub within : s.position < count
   pub other : ¬ Contains names s.name
 
--- Each name has a place of its own, to which symbols give it, and to no other; symbols give no other name, and no place is left.
+-- Each name has a place of its own: symbols give it to that place, and to no other. Symbols give no other name, and no place is left over.
 pub record AreNamed (kind : Kind) (count : ℕ) (symbols : List Symbol) (names : List (List ℕ)) (places : List ℕ) : Type 0 where
   pub all : length places ≡ length names
   pub named : (k : ℕ) → k < length names → IsNamed kind count symbols (get_or names k []) (get_or places k 0)
@@ -40,7 +40,7 @@ pub record AreNamed (kind : Kind) (count : ℕ) (symbols : List Symbol) (names :
 abbrev pub literals_at : List ℕ → List ℕ → List ℕ
 literals_at literals places = map (λ place. get_or literals place 0) places
 
--- the literals of these names in their order: by symbols, or as many in the order in which they stand
+-- the literals of these names in their order: by symbols, or else all literals as they are, if there are as many as names
 abbrev pub AreTied : Bool → Kind → List Symbol → List (List ℕ) → List ℕ → List ℕ → Type 0
 AreTied true kind symbols names literals tied = (length literals ≡ length names) × (tied ≡ literals)
 AreTied false kind symbols names literals tied =
@@ -59,13 +59,14 @@ abbrev pub IsOnlyAt : Kind → ℕ → List Symbol → List ℕ → ℕ → Type
 IsOnlyAt kind count symbols name place =
     IsNamed kind count symbols name place × ((other : ℕ) → IsNamed kind count symbols name other → other ≡ place)
 
--- the name at this position of the list has a place of its own: it is given to one, and no name before it is given to that
+-- the name at this position of the list has a place of its own: it is given to one place only, and no name before it is given to that
+-- place
 abbrev pub HasPlace : Kind → ℕ → List Symbol → List (List ℕ) → ℕ → Type 0
 HasPlace kind count symbols names k =
     (place : ℕ) × IsOnlyAt kind count symbols (get_or names k []) place
     × ((j : ℕ) → j < k → ¬ IsNamed kind count symbols (get_or names j []) place)
 
--- the name stands at this position of the list, and those before it have places of their own
+-- the name is at this position of the list, and the names before it have places of their own
 pub record IsNext (kind : Kind) (count : ℕ) (symbols : List Symbol) (names : List (List ℕ)) (k : ℕ) (name : List ℕ) : Type 0 where
   pub within : k < length names
   pub there : get_or names k [] ≡ name
@@ -78,13 +79,13 @@ pub record IsLeft (kind : Kind) (count : ℕ) (symbols : List Symbol) (names : L
   pub left : (k : ℕ) → k < length names → ¬ IsNamed kind count symbols (get_or names k []) place
   pub before : (p : ℕ) → p < place → (k : ℕ) × (k < length names) × IsNamed kind count symbols (get_or names k []) p
 
--- this symbol is the first that is unknown
+-- this symbol is the first that gives another name
 abbrev pub IsFirstUnknown : Kind → ℕ → List (List ℕ) → List Symbol → Symbol → Type 0
 IsFirstUnknown kind count names [] s = ⊥
 IsFirstUnknown kind count names (first ∷ symbols) s =
     (IsUnknown kind count names first × (first ≡ s)) ⊎ (¬ IsUnknown kind count names first × IsFirstUnknown kind count names symbols s)
 
--- such a symbol gives this place this name
+-- the first symbol that gives another name gives this one to this place
 abbrev pub HasUnknown : Kind → ℕ → List Symbol → List (List ℕ) → ℕ → List ℕ → Type 0
 HasUnknown kind count symbols names place name =
     (s : Symbol) × IsFirstUnknown kind count names symbols s × (s.position ≡ place) × (s.name ≡ name)
@@ -108,13 +109,13 @@ IsSideFault true kind count symbols names (Short name) = (count < length names) 
 IsSideFault true kind count symbols names (Long place) = (place ≡ length names) × (place < count)
 IsSideFault _ _ _ _ _ _ = ⊥
 
--- names are asked for, there are inputs or outputs, and none of them has a name
+-- names are needed, there are inputs or outputs, and none of them has a name
 abbrev pub IsNameless : Bool → List ℕ → List ℕ → List Symbol → Type 0
 IsNameless true inputs outputs symbols = ⊥
 IsNameless false inputs outputs symbols =
     (0 < length inputs + length outputs) × ((s : Symbol) → Contains symbols s → s.kind ≡ latch)
 
--- inputs come first
+-- inputs are matched first
 abbrev pub IsTieFault : Bool → Automaton → Circuit → List Symbol → TieFault → Type 0
 IsTieFault by_place a circuit symbols OutOfMemory = Unit {0}
 IsTieFault by_place a circuit symbols NoSymbols = IsNameless by_place circuit.inputs circuit.outputs symbols

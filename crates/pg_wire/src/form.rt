@@ -1,4 +1,4 @@
-//! Lists of items that are spelled one after the other.
+//! Lists of items that are spelled one after another.
 ghost use Rattle.std.specs.Prelude.{◌≡◌, ℕ, ◌+◌, ◌*◌, ◌≤◌, ◌↔◌, Result, IsTrue, IfOk, length, vec_capacity};
 ghost use Rattle.pg_wire.specs.Mirrors.Reading.{Yields, Gives, made, skipped};
 ghost use Rattle.pg_wire.specs.Mirrors.Formats.{Kind, AreItems, so_many, listed};
@@ -9,7 +9,7 @@ use crate::fields::within;
 use crate::list::Items;
 use std::alloc::Global;
 
-/// A kind of item. Each stands at a place, which the one before it sets.
+/// A kind of item. Each item has a place, which the item before it sets.
 pub trait Form {
     type Item: Drop;
 
@@ -30,7 +30,7 @@ pub trait Form {
         ensures read { Gives (λ x. (x.0, x.1.now)) result ((kind width).read place bytes.now) }
         ensures size { IfOk result (λ x. SIZE + length x.1.now ≤ length bytes.now) };
 
-    /// The place that the next item sets, and the bytes after it. It takes no memory.
+    /// Returns the place that the next item gets, and the bytes after this item. It takes no memory.
     fn skip(width: u32, place: u64, bytes: &[u8]) -> Result<(u64, &[u8]), FieldFault>
         ensures { Yields (λ x. (x.0, x.1.now)) result (made (kind width).next ((kind width).read place) bytes.now) };
 
@@ -45,7 +45,7 @@ pub trait Form {
     ghost steps: { (width : ℕ) → Steps (kind width).Stands (kind width).Precedes (kind width).next };
 }
 
-/// So many items. It takes memory for no more of them than the bytes can spell.
+/// Reads `count` items. It takes memory for no more items than the bytes can spell.
 pub fn items<F: Form>(
     alloc: Global,
     width: u32,
@@ -70,7 +70,7 @@ pub fn items<F: Form>(
     Ok((items, rest))
 }
 
-/// The bytes after so many items. It takes no memory.
+/// Returns the bytes after `count` items. It takes no memory.
 pub fn skip_items<F: Form>(
     width: u32,
     count: u32,
@@ -89,7 +89,7 @@ pub fn skip_items<F: Form>(
     Ok(rest)
 }
 
-/// The bytes after a count, from `least` on and below `high`, and as many items. It takes no memory.
+/// Returns the bytes after a count, from `least` on and below `high`, and that many items. It takes no memory.
 #[tactic(auto, unfolding(crate::specs::Mirrors::Reading::counted_at))]
 pub fn skip_counted<F: Form>(
     width: u32,
@@ -104,7 +104,7 @@ pub fn skip_counted<F: Form>(
     skip_items::<F>(width, count, place, rest)
 }
 
-/// How many items, from `least` on and below `high`, and then each.
+/// Reads a count, from `least` on and below `high`, and then that many items.
 #[tactic(auto, using(crate::proofs::Loop::size_counted), unfolding(crate::specs::Mirrors::Reading::counted_at))]
 pub fn counted<F: Form>(
     alloc: Global,
@@ -122,8 +122,7 @@ pub fn counted<F: Form>(
     Ok((Items::new(items), rest))
 }
 
-/// Whether each item is in its ranges, and the first one stands at the place, and each other one
-/// after the one before it.
+/// Whether each item is in its ranges, the first one fits at the place, and each other one fits after the one before it.
 pub fn are_ordered<F: Form>(width: u32, place: u64, items: &[F::Item]) -> bool
     ensures { IsTrue result ↔ AreItems (F.kind width) place items.now }
 {

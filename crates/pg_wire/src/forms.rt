@@ -11,7 +11,7 @@ use crate::frame::{SparseValue, Value, VertexLine};
 use crate::list::{Items, Numbers, Pairs};
 use std::alloc::Global;
 
-/// The successors of a vertex, which rise.
+/// The successors of a vertex, in rising order.
 pub struct SuccessorForm;
 
 impl Form for SuccessorForm {
@@ -50,7 +50,7 @@ impl Form for SuccessorForm {
     ghost steps = { λ _. rising (λ n. n) };
 }
 
-/// Priorities that fall, each with its bound.
+/// Priorities in falling order, each with its bound.
 pub struct BoundForm;
 
 impl Form for BoundForm {
@@ -134,7 +134,7 @@ impl Form for ComponentForm {
     ghost steps = { λ _. in_any_order };
 }
 
-/// Places below the width, which rise, each with its number.
+/// Places below the width in rising order, each with its number.
 pub struct PlaceForm;
 
 impl Form for PlaceForm {
@@ -179,7 +179,7 @@ impl Form for PlaceForm {
     ghost steps = { λ _. rising (λ p. p.0) };
 }
 
-/// The lines of vertices, which rise.
+/// The lines of vertices, by rising vertex.
 pub struct LineForm;
 
 impl Form for LineForm {
@@ -245,7 +245,7 @@ impl Form for LineForm {
     ghost steps = { λ _. rising (λ l. l.vertex) };
 }
 
-/// The list behind a tag, 0, in a frame of this width; behind 1 there is none.
+/// Reads a tag, and after tag 0 a list of `width` numbers; after tag 1 there is none.
 #[tactic(auto, unfolding(crate::specs::Mirrors::Reading::tagged_at))]
 fn components(
     alloc: Global,
@@ -263,14 +263,14 @@ fn components(
     Ok((Some(Items::new(numbers)), rest))
 }
 
-/// Whether a list has a number for each place of the width.
+/// Whether a list has one number for each place of the width.
 fn are_components(width: u32, numbers: &[u32]) -> bool
     ensures { IsTrue result ↔ IsComponents width numbers.now }
 {
     numbers.len() == width as usize && are_ordered::<ComponentForm>(width, 0, numbers)
 }
 
-/// The measures of vertices, which rise.
+/// The measures of vertices, by rising vertex.
 pub struct ValueForm;
 
 impl Form for ValueForm {
@@ -326,7 +326,7 @@ impl Form for ValueForm {
     ghost steps = { λ _. rising (λ v. v.vertex) };
 }
 
-/// The pairs behind a tag, 0, in a frame of this width; behind 1 there are none.
+/// Reads a tag, and after tag 0 the pairs of a frame of this width; after tag 1 there are none.
 #[tactic(auto, unfolding(crate::specs::Mirrors::Reading::tagged_at))]
 fn places(alloc: Global, width: u32, bytes: &[u8]) -> Result<(Option<Pairs>, &[u8]), ReadFault>
     ensures read { Gives (λ x. (x.0, x.1.now)) result ((tagged (some_places width)).read bytes.now) }
@@ -347,7 +347,7 @@ fn are_places(width: u32, pairs: &[(u32, u32)]) -> bool
     pairs.len() <= width as usize && are_ordered::<PlaceForm>(width, 0, pairs)
 }
 
-/// The measures of vertices, which rise, by the components that aren't 0.
+/// The measures of vertices, by rising vertex, given by the components that aren't 0.
 pub struct SparseValueForm;
 
 impl Form for SparseValueForm {

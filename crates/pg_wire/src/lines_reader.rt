@@ -1,4 +1,4 @@
-//! Reads the lines of a frame of vertices one after the other, from its bytes.
+//! Reads the lines of a frame of vertices one after another, from its bytes.
 ghost use Rattle.std.specs.Prelude.{◌≡◌, ◌≢◌, ◌<◌, ◌∷◌, List, None, IfSome, IfOk, IfNone, OnErr, length};
 ghost use Rattle.pg_wire.specs.declared.frame.VertexLine.{VertexLine};
 ghost use Rattle.pg_wire.specs.Spelling.{body};
@@ -17,14 +17,13 @@ use crate::reader::read_numbers;
 use crate::reading::after_length;
 use std::alloc::AllocError;
 
-/// The lines of a frame of vertices that are left.
+/// Reads the lines that are left of a frame of vertices.
 #[derive(Clone, Copy)]
 pub struct VerticesReader<'a> {
     bytes: &'a [u8],
 }
 
-/// What stands before the successors of a line, whose vertex is from a place on: its head, and how many successors
-/// there are.
+/// Reads the part of a line before its successors: its head, whose vertex is from `place` on, and the number of successors.
 #[tactic(auto, unfolding(crate::specs::Mirrors::Streaming::line_head))]
 #[inline(always)]
 fn head(place: u64, bytes: &[u8]) -> Result<(LineHead, u32, &[u8]), FieldFault>
@@ -43,7 +42,7 @@ fn head(place: u64, bytes: &[u8]) -> Result<(LineHead, u32, &[u8]), FieldFault>
     Ok((head, count, rest))
 }
 
-/// The bytes of the lines, where the bytes are the fields of a frame of vertices.
+/// Returns the bytes of the lines if the bytes are the fields of a frame of vertices, and None otherwise.
 fn lines(bytes: &[u8]) -> Option<&[u8]>
     ensures found { IfSome result (λ x. AreLines bytes.now x.now) }
     ensures all { (ls : List VertexLine) → IsWell (frame_with ls) → (2 ∷ bytes.now) ≡ body (frame_with ls)
@@ -64,8 +63,8 @@ fn lines(bytes: &[u8]) -> Option<&[u8]>
 impl<'a> VerticesReader<'a> {
     ghost use Rattle.pg_wire.specs.LinesLeft.{AreLeft, IsNextLine};
 
-    /// A reader of the lines in a frame of vertices, or None if the bytes, all of them, don't spell such a frame. It
-    /// takes no memory.
+    /// Returns a reader of the lines in a frame of vertices, or None if the bytes, all of them, don't spell such a frame.
+    /// It takes no memory.
     pub fn open(bytes: &'a [u8]) -> Option<VerticesReader<'a>>
         ensures found { IfSome result (λ r. (ls : List VertexLine) × Spells (frame_with ls) bytes.now × AreLeft r ls) }
         ensures all { (ls : List VertexLine) → Spells (frame_with ls) bytes.now → result ≢ None }
@@ -82,9 +81,9 @@ impl<'a> VerticesReader<'a> {
         }
     }
 
-    /// Reads the next line. Its successors replace what the vector held. None if no line is left. It fails only if
-    /// memory runs out, and takes memory only if the vector has too little room. If it returns None or fails, reader
-    /// and vector stay as they were.
+    /// Reads the next line and returns its head. Its successors replace the contents of the vector. Returns None if no line
+    /// is left. It fails only if memory runs out, and takes memory only if the vector has too little room. If it returns
+    /// None or fails, the reader and the vector stay as they were.
     pub fn next(&mut self, successors: &mut Vec<u32>) -> Result<Option<LineHead>, AllocError>
         ensures less { IfOk result (λ o. IfSome o (λ x. length self.new.bytes.now < length self.old.bytes.now)) }
         ensures next { (ls : List VertexLine) → AreLeft self.old ls

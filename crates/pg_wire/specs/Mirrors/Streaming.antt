@@ -1,4 +1,4 @@
--- The private readers of frames whose lists are read one item after the other.
+-- The private readers of frames whose lists are read one item after another.
 use Rattle.std.specs.Prelude.{◌≡◌, ℕ, ◌≤◌, List, ◌∷◌, Result, All}
 use Rattle.std.specs.List.{flat_map}
 use Rattle.pg_wire.specs.declared.fault.FieldFault.{FieldFault}
@@ -13,7 +13,7 @@ use Rattle.pg_wire.specs.Measured.{Measured, IsMeasured, spelled_as, kind_number
 use Rattle.pg_wire.specs.Mirrors.Reading.{skipped}
 use Rattle.pg_wire.specs.Mirrors.Formats.{Format, and_then, within, number, byte, values_fields, sparse_fields}
 
--- what stands before the successors of a line: its head, and how many successors there are
+-- the part of a line before its successors: its head, and the number of successors
 abbrev pub Counted : Type 0
 Counted = ℕ × (ℕ × (ℕ × ℕ))
 
