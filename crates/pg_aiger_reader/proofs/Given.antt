@@ -4,7 +4,7 @@ use Rattle.pg_aiger_reader.proofs.Common.{◌∙◌, arith, inl, inr, cases_lt, 
 use Rattle.pg_aiger_reader.proofs.Common.{Contains-get_or, length-append, get_or_append_left, get_or_push, get_or_default, map}
 use Rattle.std.specs.Prelude.{All, Result, Ok, MatchResult}
 use Rattle.pg_aiger.specs.CircuitText.{Kind, Symbol}
-use Rattle.pg_aiger_reader.specs.Ties.{IsNamed, AreTied, HasPlace, IsNext, IsLeft, IsUnknown, IsFirstUnknown, literals_at}
+use Rattle.pg_aiger_reader.specs.Ties.{IsNamed, AreTied, HasPlace, IsNext, IsLeft, IsUnknown, AreKnown, IsFirstUnknown, literals_at}
 use Rattle.pg_aiger_reader.specs.Mirrors.Places.{IsPlaceOf, AreGiven, texts}
 use Rattle.pg_aiger_reader.proofs.Common.{Bor, get_or-map, length-map, map_push, take, take_more}
 use Rattle.pg_aiger_reader.specs.Views.{symbol_in}
@@ -69,7 +69,7 @@ has_place kind count symbols names so_many places given k below = (
 
 pub tied_by_names : (kind : Kind) (symbols : List Symbol) (names : List (List ℕ)) (literals places tied : List ℕ)
     → AreGiven kind (length literals) symbols names (length names) places
-    → ((s : Symbol) → Contains symbols s → ¬ IsUnknown kind (length literals) names s) → ((p : ℕ) → p < length literals → Contains places p)
+    → AreKnown kind (length literals) symbols names → ((p : ℕ) → p < length literals → Contains places p)
     → tied ≡ literals_at literals places → AreTied false kind symbols names literals tied
 tied_by_names kind symbols names literals places tied given known none e = (
   places,
@@ -157,7 +157,7 @@ unknown_first kind count names (s ∷ symbols) (suc i) d below none is =
 
 -- where no symbol gives another name, none gives one to a place that is left
 pub none_there : (kind : Kind) (count : ℕ) (symbols : List Symbol) (names : List (List ℕ)) (place : ℕ) → IsLeft kind count symbols names place
-    → ((s : Symbol) → Contains symbols s → ¬ IsUnknown kind count names s) → (s : Symbol) → Contains symbols s → s.kind ≡ kind
+    → AreKnown kind count symbols names → (s : Symbol) → Contains symbols s → s.kind ≡ kind
     → s.position ≢ place
 none_there kind count symbols names place left known s there of_kind at = known s there (record {
   of_kind = of_kind;

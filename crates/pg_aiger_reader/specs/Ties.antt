@@ -27,13 +27,16 @@ pub record IsUnknown (kind : Kind) (count : ℕ) (names : List (List ℕ)) (s : 
   pub within : s.position < count
   pub other : ¬ Contains names s.name
 
+abbrev pub AreKnown : Kind → ℕ → List Symbol → List (List ℕ) → Type 0
+AreKnown kind count symbols names = (s : Symbol) → Contains symbols s → ¬ IsUnknown kind count names s
+
 -- Each name has a place of its own: symbols give it to that place, and to no other. Symbols give no other name, and no place is left over.
 pub record AreNamed (kind : Kind) (count : ℕ) (symbols : List Symbol) (names : List (List ℕ)) (places : List ℕ) : Type 0 where
   pub all : length places ≡ length names
   pub named : (k : ℕ) → k < length names → IsNamed kind count symbols (get_or names k []) (get_or places k 0)
   pub nowhere_else : (k place : ℕ) → k < length names → IsNamed kind count symbols (get_or names k []) place → place ≡ get_or places k 0
   pub apart : AllPairs (λ p q. p ≢ q) places
-  pub known : (s : Symbol) → Contains symbols s → ¬ IsUnknown kind count names s
+  pub known : AreKnown kind count symbols names
   pub none_left : (place : ℕ) → place < count → Contains places place
 
 -- the literals at these places
@@ -102,7 +105,8 @@ IsSideFault false kind count symbols names (Shared place one other) =
     (k : ℕ) × IsNext kind count symbols names k other.bytes.items × IsOnlyAt kind count symbols other.bytes.items place
     × ((j : ℕ) × (j < k) × (get_or names j [] ≡ one.bytes.items) × IsNamed kind count symbols one.bytes.items place)
 IsSideFault false kind count symbols names (Nameless place) =
-    IsLeft kind count symbols names place × ((s : Symbol) → Contains symbols s → s.kind ≡ kind → s.position ≢ place)
+    IsLeft kind count symbols names place × AreKnown kind count symbols names
+    × ((s : Symbol) → Contains symbols s → s.kind ≡ kind → s.position ≢ place)
 IsSideFault false kind count symbols names (Extra place name) =
     ((k : ℕ) → k < length names → HasPlace kind count symbols names k) × HasUnknown kind count symbols names place name.bytes.items
 IsSideFault true kind count symbols names (Short name) = (count < length names) × (get_or names count [] ≡ name.bytes.items)

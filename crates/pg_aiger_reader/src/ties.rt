@@ -7,7 +7,7 @@ ghost use Rattle.pg_aiger.specs.Mirrors.Layouts.{names_until};
 ghost use Rattle.pg_hoa_automaton.specs.Automata.{IsAutomaton};
 ghost use Rattle.pg_aiger.specs.CircuitText.{latch};
 ghost use Rattle.pg_aiger.specs.CircuitText as text;
-ghost use Rattle.pg_aiger_reader.specs.Ties.{AreTied, IsTied, IsTieFault, IsSideFault, IsNameless, IsUnknown, IsFirstUnknown, literals_at};
+ghost use Rattle.pg_aiger_reader.specs.Ties.{AreTied, IsTied, IsTieFault, IsSideFault, IsNameless, IsUnknown, AreKnown, IsFirstUnknown, literals_at};
 ghost use Rattle.pg_aiger_reader.specs.Mirrors.Places.{is_kind, noted, IsPlaceOf, AreGiven, texts};
 
 use crate::fault::{SideFault, TieFault};
@@ -136,7 +136,7 @@ fn first_unknown<'a>(
     symbols: &[Symbol<'a>],
 ) -> Option<Symbol<'a>>
     ensures { MatchOption result
-        ((s : text.Symbol) → Contains (map symbol_in symbols.now) s → ¬ IsUnknown (kind_in kind) count (texts names.now) s)
+        (AreKnown (kind_in kind) count (map symbol_in symbols.now) (texts names.now))
         (λ s. IsFirstUnknown (kind_in kind) count (texts names.now) (map symbol_in symbols.now) (symbol_in s)) }
 {
     for i in 0..symbols.len() {
