@@ -29,7 +29,7 @@ unknown_among : (kind : Kind) (count : ℕ) (names : List (List ℕ)) (symbols :
 unknown_among kind count names [] s first = absurd first
 unknown_among kind count names (t ∷ symbols) s (inl (is, e)) =
     subst (λ u. Contains (t ∷ symbols) u × IsUnknown kind count names u) e ((0, omega arith, refl), is)
-unknown_among kind count names (t ∷ symbols) s (inr (no, first)) =
+unknown_among kind count names (t ∷ symbols) s (inr (other, first)) =
     let among = unknown_among kind count names symbols s first in
     (Contains-append_right (t ∷ []) symbols s among.0, among.1)
 
