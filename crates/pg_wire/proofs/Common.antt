@@ -1,7 +1,7 @@
 -- The names that the proofs of this crate cite from elsewhere, passed on from one place. Declares nothing.
-pub use Rattle.std.proofs.Common.{Bor, Global, ap, append_assoc, arith, inl, inr, refl, rules, subst, sym, ◌∙◌}
+pub use Rattle.std.proofs.Common.{Bor, Global, ap, append_assoc, arith, inl, inr, refl, subst, sym, ◌∙◌}
 pub use Rattle.std.proofs.Math.ListN.{drop_of_length-le}
-pub use Rattle.std.proofs.Math.Nat.{le-div_iff_mul-le, mul-div-le, mul-le-mul_left, mul-suc, mul_comm, sub-zero}
+pub use Rattle.std.proofs.Math.Nat.{sub-zero}
 pub use Rattle.std.proofs.Math.Seq.{take-append-add}
 pub use Rattle.std.proofs.lemmas.Bool.{cases_Bool, cases_eq, cases_lt, eq-eqb, eqb-false, eqb-true, le-leb, le-ltb, leb-true, lt-ltb}
 pub use Rattle.std.proofs.lemmas.Bool.{ltb-false, ltb-true, ne_eqb}
@@ -32,19 +32,17 @@ pub use Rattle.pg_wire.specs.LinesWritten.{AreWriting}
 pub use Rattle.pg_wire.specs.Measured.{IsMeasured, Measured, TellsMeasures, component_in, dense_value, filled, frame_of, kind_number}
 pub use Rattle.pg_wire.specs.Measured.{nonzero, nonzero_from, sparse_form, spelled_as, told_sparse, told_values}
 pub use Rattle.pg_wire.specs.Mirrors.Buffers.{Extends}
-pub use Rattle.pg_wire.specs.Mirrors.Formats.{AreItems, Format, Kind, all_components, and_then, byte, components, lines, listed, measured}
-pub use Rattle.pg_wire.specs.Mirrors.Formats.{nothing, number, odd, placed, places, rising, said, seen, so_many, tagged, values, version}
+pub use Rattle.pg_wire.specs.Mirrors.Formats.{AreItems, Counted, Format, Kind, all_components, and_then, byte, components, counted_as, headed, listed, measured}
+pub use Rattle.pg_wire.specs.Mirrors.Formats.{nothing, number, odd, placed, places, rising, said, seen, so_many, version}
 pub use Rattle.pg_wire.specs.Mirrors.Formats.{within}
-unfoldable pub use Rattle.pg_wire.specs.Mirrors.Formats.{body_at, frame_at, go_fields, report_fields, setup_fields, sparse_fields}
+unfoldable pub use Rattle.pg_wire.specs.Mirrors.Formats.{body_at, frame_at, go_fields, line_head, report_fields, setup_fields, sparse_fields}
 unfoldable pub use Rattle.pg_wire.specs.Mirrors.Formats.{values_fields, vertices_fields}
 pub use Rattle.pg_wire.specs.Mirrors.Lengths.{IsCounted}
 pub use Rattle.pg_wire.specs.Mirrors.Ordered.{Steps, falling, in_any_order}
 pub use Rattle.pg_wire.specs.Mirrors.Reading.{Fails, HasBytes, Reader, is_code, made, number_at, skipped, ◌>>=◌}
-unfoldable pub use Rattle.pg_wire.specs.Mirrors.Reading.{byte_at, code_at, counted_at, items_at, odd_at, tagged_at, version_at, within_at}
-pub use Rattle.pg_wire.specs.Mirrors.Streaming.{AreFields, AreLines, Counted, counted_as, measures_skipped}
-unfoldable pub use Rattle.pg_wire.specs.Mirrors.Streaming.{line_head}
+unfoldable pub use Rattle.pg_wire.specs.Mirrors.Reading.{byte_at, code_at, counted_at, headed_at, items_at, odd_at, version_at, within_at}
 pub use Rattle.pg_wire.specs.Spelling.{body, counted, line, longest, pair, sparse_value, spelling, value, word}
-pub use Rattle.pg_wire.specs.Well.{ArePlaces, IsBound, IsComponents, IsCountable, IsFaultCode, IsPlace, IsSetup, IsSparseValue, IsValue}
+pub use Rattle.pg_wire.specs.Well.{ArePlaces, IsBound, IsComponents, IsCountable, IsFaultCode, IsPlace, IsSetup, IsSparseValue}
 pub use Rattle.pg_wire.specs.Well.{IsWell, IsWord}
 pub use Rattle.pg_wire.specs.Written.{IsWriting}
 pub use Rattle.pg_wire.specs.declared.fault.FieldFault.{FieldFault}
@@ -58,7 +56,6 @@ pub use Rattle.pg_wire.specs.declared.frame.Setup.{Setup}
 pub use Rattle.pg_wire.specs.declared.frame.SparseValue.{SparseValue}
 pub use Rattle.pg_wire.specs.declared.frame.Value.{Value}
 pub use Rattle.pg_wire.specs.declared.frame.VertexLine.{VertexLine}
-pub use Rattle.pg_wire.specs.declared.frame.Vertices.{Vertices}
 pub use Rattle.pg_wire.specs.declared.kind.ValueKind.{ValueKind}
 pub use Rattle.pg_wire.specs.declared.kind.ValueKind.TheVariants.{Dense, Sparse}
 pub use Rattle.pg_wire.specs.declared.lines_reader.VerticesReader.{VerticesReader}

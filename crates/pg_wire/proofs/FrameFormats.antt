@@ -1,12 +1,12 @@
 -- The formats of what stands in frames.
 use Rattle.pg_wire.proofs.Common.{◌≡◌, ℕ, ◌+◌, ◌^◌, ◌<◌, ◌≤◌, ◌⊎◌, Bool, true, false, cond, List, ◌∷◌, [], length, ◌++◌, Option, Ok, Err}
 use Rattle.pg_wire.proofs.Common.{Some, None, All, IfSome, ◌↔◌, nat_le, nat_lt, ◌&&◌, ◌||◌, refl, subst, arith, inl, inr, cases_lt, le-ltb}
-use Rattle.pg_wire.proofs.Common.{ltb-true, lt-ltb, leb-true, le-leb, eqb-true, eq-eqb, At, ValueKind, Dense, Sparse, word, IsFaultCode}
+use Rattle.pg_wire.proofs.Common.{ltb-true, lt-ltb, leb-true, le-leb, eqb-true, eq-eqb, ap, At, ValueKind, Dense, Sparse, word, IsFaultCode}
 use Rattle.pg_wire.proofs.Common.{IsComponents, Measured, spelled_as, falling, in_any_order, is_code, code_at, byte_at}
 use Rattle.pg_wire.specs.Spelling.{tagged}
 use Rattle.pg_wire.specs.Mirrors.Formats as formats
 use Rattle.pg_wire.proofs.Grammar.{IsForm, IsKind, Begins, bind_ok, test_ok, and_both, then_is, seen_is, said_is, within_is, number_is, odd_is, byte_is}
-use Rattle.pg_wire.proofs.Grammar.{version_is, tagged_is, so_many_is, listed_is, rising_is}
+use Rattle.pg_wire.proofs.Grammar.{version_is, headed_is, so_many_is, listed_is, rising_is}
 use Rattle.pg_wire.proofs.Filling.{nonzero_filled, filled_nonzero, places_nonzero, components_filled}
 
 -- ---- what stands in lists
@@ -41,33 +41,30 @@ places_is width small = rising_is (λ low. then_is (within_is low width) (λ _ _
 from_zero : {A : Type 0} (key : A → ℕ) (xs : List A) → All (λ (x : A). 0 ≤ key x) xs
 from_zero key xs = λ i d lt. omega arith
 
+pub head_is : (low : ℕ) → IsForm (formats.line_head low)
+unfolding formats.line_head
+head_is low = then_is (number_is low) (λ _ _. then_is (within_is 0 65537) (λ _ _. then_is (byte_is 2) (λ _ _. number_is 1)))
+
 pub lines_is : IsKind formats.lines (2 ^ 32)
-unfolding formats.line
+unfolding formats.line formats.line_head
 lines_is = rising_is
-    (λ low. seen_is (then_is (number_is low) (λ _ _. then_is (within_is 0 65537) (λ _ _. then_is (byte_is 2)
-    (λ _ _. listed_is successors_is 1 (2 ^ 32) 0 (omega arith)))))
-    (λ p h. refl) (λ l h. refl)
+    (λ low. seen_is (then_is (head_is low) (λ h _. so_many_is successors_is h.1.1.1 0 (omega arith)))
+    (λ p h. ap (λ (n : ℕ). ((p.0.0, (p.0.1.0, (p.0.1.1.0, n))), p.1)) h.1.0) (λ l h. refl)
     (λ p h. (
-      h.0.0,
+      h.0.0.0,
       record {
-        vertex = h.0.1;
-        priority = omega (arith, h.1.0.1);
-        owner = omega (arith, h.1.1.0);
-        some = h.1.1.1.0.0;
-        countable = h.1.1.1.0.2;
-        successors = h.1.1.1.1.items;
-        rising = h.1.1.1.1.order;
+        vertex = h.0.0.1;
+        priority = omega (arith, h.0.1.0.1);
+        owner = omega (arith, h.0.1.1.0);
+        some = omega (arith, h.0.1.1.1.0, h.1.0);
+        countable = omega (arith, h.0.1.1.1.1, h.1.0);
+        successors = h.1.1.items;
+        rising = h.1.1.order;
       },
     ))
     (λ l h. (
-      (h.0, h.1.vertex),
-      (
-        (omega arith, omega (arith, h.1.priority), omega (arith, h.1.priority)),
-        (
-          omega (arith, h.1.owner),
-          ((h.1.some, h.1.countable, h.1.countable), record { stand = from_zero (λ n. n) l.successors; items = h.1.successors; order = h.1.rising }),
-        ),
-      ),
+      ((h.0, h.1.vertex), ((omega arith, omega (arith, h.1.priority), omega (arith, h.1.priority)), (omega (arith, h.1.owner), (h.1.some, h.1.countable)))),
+      (refl, record { stand = from_zero (λ n. n) l.successors; items = h.1.successors; order = h.1.rising }),
     )))
     (λ low l. refl) (λ low l h. h) (λ low l h. h) (λ l h. h.vertex)
 
@@ -77,7 +74,7 @@ all_components_is width = said_is (so_many_is components_is width 0 (omega arith
 
 values_is : (width : ℕ) → IsKind (formats.values width) (2 ^ 32)
 unfolding formats.value
-values_is width = rising_is (λ low. seen_is (then_is (number_is low) (λ _ _. tagged_is (all_components_is width))) (λ p h. refl) (λ v h. refl)
+values_is width = rising_is (λ low. seen_is (headed_is (all_components_is width) low) (λ p h. refl) (λ v h. refl)
     (λ p h. (h.0.0, record { vertex = h.0.1; list = h.1 })) (λ v h. ((h.0, h.1.vertex), h.1.list)))
     (λ low v. refl) (λ low v h. h) (λ low v h. h) (λ v h. h.vertex)
 
@@ -89,7 +86,7 @@ some_places_is width small = said_is (listed_is (places_is width small) 0 (width
 sparse_values_is : (width : ℕ) → width < 2 ^ 31 → IsKind (formats.sparse_values width) (2 ^ 32)
 unfolding formats.sparse_value
 sparse_values_is width small = rising_is
-    (λ low. seen_is (then_is (number_is low) (λ _ _. tagged_is (some_places_is width (omega arith)))) (λ p h. refl) (λ v h. refl)
+    (λ low. seen_is (headed_is (some_places_is width (omega arith)) low) (λ p h. refl) (λ v h. refl)
     (λ p h. (h.0.0, record { vertex = h.0.1; pairs = h.1 })) (λ v h. ((h.0, h.1.vertex), h.1.pairs)))
     (λ low v. refl) (λ low v h. h) (λ low v h. h) (λ v h. h.vertex)
 
@@ -115,7 +112,7 @@ fits Sparse width o = (λ h. h, λ h. h)
 pub measures_is : (kind : ValueKind) (width : ℕ) → width < 2 ^ 32 → IsKind (formats.measures kind width) (2 ^ 32)
 unfolding formats.measured
 measures_is kind width small = rising_is
-    (λ low. then_is (number_is low) (λ _ _. tagged_is (measure_is kind width small))) (λ low m. spelt kind width m)
+    (λ low. headed_is (measure_is kind width small) low) (λ low m. spelt kind width m)
     (λ low m h. (h.0.0, record { vertex = h.0.1; list = (fits kind width m.1).0 h.1 })) (λ low m h. ((h.0, h.1.vertex), (fits kind width m.1).1 h.1.list))
     (λ m h. h.vertex)
 

@@ -5,8 +5,8 @@ use Rattle.pg_wire.proofs.Common.{inl, inr, IfSome, nat_le, nat_lt, ◌&&◌, �
 use Rattle.pg_wire.proofs.Common.{le-ltb, ltb-true, lt-ltb, leb-true, le-leb, eqb-true, eq-eqb, take_at, drop_at, take-append-drop}
 use Rattle.pg_wire.proofs.Common.{length-append, length-take, get_or-drop, get_or-take, get_or_past, flat_map-cons, be_bytes_4}
 use Rattle.pg_wire.proofs.Common.{from_be_bytes-to_be_bytes_4, FieldFault, At, Version, word, IsWord, Steps, ◌>>=◌, made, number_at}
-use Rattle.pg_wire.proofs.Common.{within_at, odd_at, byte_at, version_at, items_at, tagged_at, counted_at, Format, Kind, and_then, seen}
-use Rattle.pg_wire.proofs.Common.{said, within, number, odd, byte, version, nothing, tagged, placed, so_many, listed, rising}
+use Rattle.pg_wire.proofs.Common.{within_at, odd_at, byte_at, version_at, items_at, headed_at, counted_at, Format, Kind, and_then, seen}
+use Rattle.pg_wire.proofs.Common.{said, within, number, odd, byte, version, nothing, headed, placed, so_many, listed, rising}
 use Rattle.pg_wire.specs.Spelling as spelling
 use Rattle.pg_wire.specs.Mirrors.Ordered as order
 use Rattle.pg_wire.proofs.Orders.{Follow, ordered, follow}
@@ -185,36 +185,41 @@ nothing_is = record {
   reads_back = λ x rest h. refl;
 }
 
-tagged_reads_only : {A : Type 0} {f : Format A} → IsForm f
-    → (t : ℕ × List ℕ) (x : Option A × List ℕ) → IsBytes t.1 → t.0 < 2 → cond (t.0 == 0) (made Some f.read t.1) (Ok (None, t.1)) ≡ Ok x
-    → Begins (t.0 ∷ t.1) (spelling.tagged f.spelled x.0) x.1 × IfSome x.0 f.Fits
-tagged_reads_only {A} {f} is (zero, bytes) x h lt e =
-    let p = bind_ok (f.read bytes) (λ a. Ok (Some a.0, a.1)) x e in
+headed_reads_only : {A : Type 0} {f : Format A} → IsForm f → (v : ℕ)
+    → (t : ℕ × List ℕ) (x : (ℕ × Option A) × List ℕ) → IsBytes t.1 → t.0 < 2 → cond (t.0 == 0) (made (λ a. (v, Some a)) f.read t.1) (Ok ((v, None), t.1)) ≡ Ok x
+    → Begins (word v ++ t.0 ∷ t.1) (word x.0.0 ++ spelling.tagged f.spelled x.0.1) x.1 × (v ≡ x.0.0) × IfSome x.0.1 f.Fits
+headed_reads_only {A} {f} is v (zero, bytes) x h lt e =
+    let p = bind_ok (f.read bytes) (λ a. Ok ((v, Some a.0), a.1)) x e in
     let t = is.reads_only bytes p.0 h p.1 in
-    let some : Option A × List ℕ = (Some p.0.0, p.0.1) in
-    let P : Option A × List ℕ → Type 0 = λ y. Begins (0 ∷ bytes) (spelling.tagged f.spelled y.0) y.1 × IfSome y.0 f.Fits in
-    subst P (ok_is some x p.2) (record { parts = ap (λ (s : List ℕ). 0 ∷ s) t.0.parts; rest_fits = t.0.rest_fits }, t.1)
-tagged_reads_only {A} {f} is (suc n, bytes) x h lt e =
-    let none : Option A × List ℕ = (None, bytes) in
+    let some : (ℕ × Option A) × List ℕ = ((v, Some p.0.0), p.0.1) in
+    let P : (ℕ × Option A) × List ℕ → Type 0 = λ y. Begins (word v ++ 0 ∷ bytes) (word y.0.0 ++ spelling.tagged f.spelled y.0.1) y.1 × (v ≡ y.0.0) × IfSome y.0.1 f.Fits in
+    subst P (ok_is some x p.2) (record { parts = ap (λ (s : List ℕ). word v ++ 0 ∷ s) t.0.parts; rest_fits = t.0.rest_fits }, refl, t.1)
+headed_reads_only {A} {f} is v (suc n, bytes) x h lt e =
+    let none : (ℕ × Option A) × List ℕ = ((v, None), bytes) in
     let one : n ≡ 0 = omega arith in
-    let P : Option A × List ℕ → Type 0 = λ y. Begins (suc n ∷ bytes) (spelling.tagged f.spelled y.0) y.1 × IfSome y.0 f.Fits in
-    subst P (ok_is none x (rw one at e)) (record { parts = rw one refl; rest_fits = h }, tt)
+    let P : (ℕ × Option A) × List ℕ → Type 0 = λ y. Begins (word v ++ suc n ∷ bytes) (word y.0.0 ++ spelling.tagged f.spelled y.0.1) y.1 × (v ≡ y.0.0) × IfSome y.0.1 f.Fits in
+    subst P (ok_is none x (rw one at e)) (record { parts = rw one refl; rest_fits = h }, refl, tt)
 
-tagged_reads_back : {A : Type 0} {f : Format A} → IsForm f
-    → (o : Option A) (rest : List ℕ) → IfSome o f.Fits → tagged_at f.read (spelling.tagged f.spelled o ++ rest) ≡ Ok (o, rest)
-unfolding tagged_at byte_at
-tagged_reads_back is None rest h = refl
-tagged_reads_back is (Some x) rest h = rw (is.reads_back x rest h) refl
+head_is : (low : ℕ) → IsForm (and_then (number low) (λ _. byte 2))
+head_is low = then_is (number_is low) (λ _ _. byte_is 2)
 
-pub tagged_is : {A : Type 0} {f : Format A} → IsForm f → IsForm (tagged f)
-unfolding tagged_at
-tagged_is {A} {f} is = record {
+headed_reads_back : {A : Type 0} {f : Format A} → IsForm f → (low : ℕ)
+    → (x : ℕ × Option A) (rest : List ℕ) → (headed low f).Fits x → headed_at low f.read ((headed low f).spelled x ++ rest) ≡ Ok (x, rest)
+unfolding headed_at
+headed_reads_back is low (v, None) rest h = rw ((head_is low).reads_back (v, 1) rest (h.0, omega arith)) refl
+headed_reads_back {A} {f} is low (v, Some x) rest h =
+    rw ((head_is low).reads_back (v, 0) (f.spelled x ++ rest) (h.0, omega arith), is.reads_back x rest h.1) refl
+
+pub headed_is : {A : Type 0} {f : Format A} → IsForm f → (low : ℕ) → IsForm (headed low f)
+unfolding headed_at
+headed_is {A} {f} is low = record {
   reads_only = λ bytes x h e.
-      let p = bind_ok (byte_at 2 bytes) (λ t. cond (t.0 == 0) (made Some f.read t.1) (Ok (None, t.1))) x e in
-      let t = (byte_is 2).reads_only bytes p.0 h p.1 in
-      let u = tagged_reads_only is p.0 x t.0.rest_fits t.1 p.2 in
-      (record { parts = t.0.parts ∙ u.0.parts; rest_fits = u.0.rest_fits }, u.1);
-  reads_back = tagged_reads_back is;
+      let p = bind_ok ((and_then (number low) (λ _. byte 2)).read bytes)
+      (λ t. cond (t.0.1 == 0) (made (λ a. (t.0.0, Some a)) f.read t.1) (Ok ((t.0.0, None), t.1))) x e in
+      let t = (head_is low).reads_only bytes p.0 h p.1 in
+      let u = headed_reads_only is p.0.0.0 (p.0.0.1, p.0.1) x t.0.rest_fits t.1.1 p.2 in
+      (record { parts = t.0.parts ∙ u.0.parts; rest_fits = u.0.rest_fits }, (subst (λ (n : ℕ). (low ≤ n) × IsWord n) u.1 t.1.0, u.2));
+  reads_back = headed_reads_back is low;
 }
 
 -- ---- lists

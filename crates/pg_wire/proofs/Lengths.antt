@@ -41,22 +41,12 @@ counted_spells bytes rest f c is well = record {
 abbrev pub after_kind : List ℕ → List ℕ
 after_kind rest = take (length rest - 1) (drop 1 rest)
 
-kind_and_after : (rest : List ℕ) (kind : ℕ) → 1 ≤ length rest → get_or rest 0 0 ≡ kind → (kind ∷ after_kind rest) ≡ rest
+pub kind_and_after : (rest : List ℕ) (kind : ℕ) → 1 ≤ length rest → get_or rest 0 0 ≡ kind → (kind ∷ after_kind rest) ≡ rest
 kind_and_after [] kind some is = absurd (omega arith)
 kind_and_after (k ∷ fields) kind some is =
     let size : length (k ∷ fields) - 1 ≡ length fields = omega arith in
     ap (λ (n : ℕ). n ∷ take (length (k ∷ fields) - 1) fields) (sym is) ∙ ap (λ (n : ℕ). k ∷ take n fields) size
     ∙ ap (λ (t : List ℕ). k ∷ t) (take_all (length fields) fields (omega arith))
-
--- the kind and the fields of the frame that is spelled
-pub kinded_body : (bytes rest : List ℕ) (kind : ℕ) (f : Frame) → IsCounted bytes rest → 1 ≤ length rest → get_or rest 0 0 ≡ kind → Spells f bytes
-    → (kind ∷ after_kind rest) ≡ body f
-kinded_body bytes rest kind f c some is s = kind_and_after rest kind some is ∙ counted_body bytes rest f c s
-
--- a kind and the fields of a well frame
-pub kinded_spells : (bytes rest : List ℕ) (kind : ℕ) (f : Frame) → IsCounted bytes rest → 1 ≤ length rest → get_or rest 0 0 ≡ kind
-    → (kind ∷ after_kind rest) ≡ body f → IsWell f → Spells f bytes
-kinded_spells bytes rest kind f c some is whole well = counted_spells bytes rest f c (sym (kind_and_after rest kind some is) ∙ whole) well
 
 -- a frame of measures has a body
 pub no_measures : (f : Frame) → TellsMeasures f → length (body f) < 1 → ⊥

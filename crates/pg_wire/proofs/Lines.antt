@@ -2,14 +2,10 @@
 use Rattle.pg_wire.proofs.Common.{◌≡◌, ℕ, suc, ◌/◌, ◌<◌, List, [], ◌∷◌, ◌++◌, length, Some, None, Ok, Err, Bor, refl, sym, ap, ◌∙◌, arith}
 use Rattle.pg_wire.proofs.Common.{flat_map, length-append, flat_map-cons, FieldFault, LineHead, VertexLine, VerticesReader, word, line}
 use Rattle.pg_wire.proofs.Common.{head_of, AreLeft, IsNextLine, within_at, all_components, Counted, line_head, counted_as}
-use Rattle.pg_wire.proofs.Grammar.{IsForm, ok_is, then_is, within_is, number_is, byte_is}
-use Rattle.pg_wire.proofs.FrameFormats.{all_components_is}
+use Rattle.pg_wire.proofs.Grammar.{ok_is}
+use Rattle.pg_wire.proofs.FrameFormats.{head_is, all_components_is}
 use Rattle.pg_wire.proofs.Orders.{pairs_tail}
 use Rattle.pg_wire.proofs.Nonzero.{words_size}
-
-head_is : IsForm (line_head 0)
-unfolding line_head
-head_is = then_is (number_is 0) (λ _ _. then_is (within_is 0 65537) (λ _ _. then_is (byte_is 2) (λ _ _. number_is 1)))
 
 abbrev counted_of : VertexLine → Counted
 counted_of l = counted_as (head_of l) (length l.successors)
@@ -19,7 +15,7 @@ first_read : (r : VerticesReader) (l : VertexLine) (ls : List VertexLine) → Ar
 unfolding line_head
 first_read r l ls h =
     let is = h.lines 0 l (omega arith) in
-    ap (line_head 0).read (h.spelled ∙ flat_map-cons line l ls) ∙ head_is.reads_back (counted_of l) (flat_map word l.successors ++ flat_map line ls)
+    ap (line_head 0).read (h.spelled ∙ flat_map-cons line l ls) ∙ (head_is 0).reads_back (counted_of l) (flat_map word l.successors ++ flat_map line ls)
     ((omega arith, is.vertex), ((omega arith, omega (arith, is.priority), omega (arith, is.priority)), (omega (arith, is.owner), (is.some, is.countable))))
 
 -- a line that isn't read is none that was left

@@ -1,6 +1,6 @@
 -- A loop that reads items.
 use Rattle.pg_wire.proofs.Common.{◌≡◌, ℕ, suc, ◌+◌, ◌-◌, ◌<◌, ◌≤◌, List, [], ◌∷◌, ◌++◌, Result, Ok, Err, refl, sym, ap, ◌∙◌, append_assoc}
-use Rattle.pg_wire.proofs.Common.{arith, min, ◌*◌, ◌/◌, le-div_iff_mul-le, mul-div-le, mul-suc, mul_comm, mul-le-mul_left, append-nil}
+use Rattle.pg_wire.proofs.Common.{arith, append-nil}
 use Rattle.pg_wire.proofs.Common.{FieldFault, ReadFault, ◌>>=◌, Fails, items_at, Kind, so_many}
 use Rattle.pg_wire.specs.declared.fault.ReadFault.TheVariants as faults
 
@@ -40,24 +40,6 @@ is_done {A} k front count i at bytes total le so_far =
     let n : count - i ≡ 0 = omega arith in
     let one : with_front front ((so_many k (count - i) at).read bytes) ≡ Ok (front, bytes) = rw n (ap (λ (xs : List A). Ok (xs, bytes)) (append-nil front)) in
     sym so_far ∙ one
-
--- where all items so far were spelled, there is room for one more
-pub room_left : (size n rest after len count : ℕ) → 1 ≤ size → size * n + rest ≤ len → size + after ≤ rest → n < count → n < min (len / size) count
-room_left size n rest after len count some so_far one lt =
-    let more : (n + 1) * size ≤ len = omega (arith, mul_comm (n + 1) size, mul-suc size n) in
-    let fits : n + 1 ≤ len / size = (le-div_iff_mul-le {k = size} {x = n + 1} {y = len} (omega arith)).1 more in
-    omega arith
-
-pub room_used : (size n rest after len : ℕ) → size * n + rest ≤ len → size + after ≤ rest → size * (n + 1) + after ≤ len
-room_used size n rest after len so_far one = omega (arith, mul-suc size n)
-
-pub room_fits : (size len count cap : ℕ) → cap ≡ min (len / size) count → size * cap ≤ len
-room_fits size len count cap e =
-    let le : cap ≤ len / size = omega arith in
-    omega (arith, mul-div-le len size, mul-le-mul_left size le)
-
-pub size_counted : (size least count len rest after : ℕ) → least ≤ count → 4 + rest ≡ len → size * count + after ≤ rest → 4 + size * least + after ≤ len
-size_counted size least count len rest after le e h = omega (arith, mul-le-mul_left size le)
 
 pub starts : {A : Type 0} (read : Result (List A × List ℕ) FieldFault) → with_front [] read ≡ read
 starts (Ok x) = refl

@@ -1,14 +1,13 @@
 -- What is passed over is read.
-use Rattle.pg_wire.proofs.Common.{◌≡◌, ℕ, suc, ◌+◌, ◌-◌, ◌^◌, ◌<◌, ◌≤◌, List, [], ◌∷◌, ◌++◌, drop, get_or, length, Result, Ok, Err, refl}
-use Rattle.pg_wire.proofs.Common.{sym, ap, subst, ◌∙◌, arith, flat_map, append-nil, FieldFault, VertexLine, Vertices, Frame, ValueKind}
-use Rattle.pg_wire.proofs.Common.{word, line, body, IsWell, frame_with, filled, spelled_as, kind_number, ◌>>=◌, Reader, made, skipped}
-use Rattle.pg_wire.proofs.Common.{items_at, within_at, Format, Kind, so_many, listed, lines, values, places, values_fields, sparse_fields}
-use Rattle.pg_wire.proofs.Common.{vertices_fields, measures_skipped, AreLines, AreFields}
+use Rattle.pg_wire.proofs.Common.{◌≡◌, ℕ, suc, ◌+◌, ◌-◌, ◌^◌, ◌<◌, ◌≤◌, List, ◌∷◌, ◌++◌, drop, get_or, length, Result, Ok, Err, refl}
+use Rattle.pg_wire.proofs.Common.{sym, ap, subst, ◌∙◌, arith, flat_map, Bor, FieldFault, VertexLine, Frame, ValueKind, Measured}
+use Rattle.pg_wire.proofs.Common.{word, body, IsWell, IsWord, Spells, IsCounted, IsLeft, AreLeft, frame_with, frame_of, filled, spelled_as}
+use Rattle.pg_wire.proofs.Common.{kind_number, ◌>>=◌, Reader, made, skipped, items_at, within_at, body_at, Kind, so_many, places}
 use Rattle.pg_wire.specs.declared.frame.Frame.TheVariants as frames
-use Rattle.pg_wire.specs.declared.kind.ValueKind.TheVariants as kinds
-use Rattle.pg_wire.proofs.Grammar.{IsForm, IsBytes, bind_ok, ok_is, within_is}
-use Rattle.pg_wire.proofs.FrameFormats.{vertices_is, values_fields_is, sparse_fields_is}
-use Rattle.pg_wire.proofs.Tells.{IsOf, well_of, measures_of, body_is}
+use Rattle.pg_wire.proofs.Grammar.{IsBytes, IsBytes-drop, bind_ok, ok_is, within_is}
+use Rattle.pg_wire.proofs.Bodies.{body_found, body_reads_back, one_frame}
+use Rattle.pg_wire.proofs.Lengths.{counted_body, counted_spells}
+use Rattle.pg_wire.proofs.Tells.{IsOf, measures_of, body_is}
 
 result_err : {A B : Type 0} (r : Result A FieldFault) (f : A → B) (e : FieldFault) → (r >>= λ a. Ok (f a)) ≡ Err e → r ≡ Err e
 result_err (Ok x) f e h = absurd cc
@@ -72,48 +71,32 @@ is_done k count i at bytes total le so_far =
     let one : skipped (so_many k (count - i) at).read bytes ≡ Ok bytes = rw n refl in
     sym so_far ∙ one
 
--- ---- readers that are made of others
+-- ---- the body of a frame
 
-made_skipped : {A B : Type 0} (make : A → B) (r : Result (A × List ℕ) FieldFault) → ((r >>= λ a. Ok (make a.0, a.1)) >>= left) ≡ (r >>= left)
-made_skipped make (Ok x) = refl
-made_skipped make (Err e) = refl
+pub checked_found : (bytes rest : List ℕ) → IsBytes bytes → IsCounted bytes rest → ((f : Frame) × (body_at rest ≡ Ok f))
+    → (f : Frame) × Spells f bytes × (rest ≡ body f)
+checked_found bytes rest h c p =
+    let small : IsBytes rest = subst IsBytes (ap (drop 4) c.whole) (IsBytes-drop 4 bytes h) in
+    let q = body_found rest p.0 small p.1 in
+    (p.0, counted_spells bytes rest p.0 c q.0 q.1, q.0)
 
--- ---- the fields of a frame
+pub checked_none : (bytes rest : List ℕ) (e : FieldFault) (f : Frame) → IsCounted bytes rest → body_at rest ≡ Err e → Spells f bytes → ⊥
+checked_none bytes rest e f c h s =
+    let ok : body_at rest ≡ Ok f = ap body_at (counted_body bytes rest f c s) ∙ body_reads_back f s.well in
+    absurd (cc (sym ok ∙ h))
 
--- fields that fill the bytes, and back
-read_all : {A : Type 0} {f : Format A} → IsForm f → (bytes : List ℕ) → IsBytes bytes → skipped f.read bytes ≡ Ok [] → (a : A) × (bytes ≡ f.spelled a) × f.Fits a
-read_all {A} {f} is bytes h e =
-    let p = passed (f.read bytes) [] e in
-    let t = is.reads_only bytes (p.0, []) h p.1 in
-    (p.0, t.0.parts ∙ append-nil (f.spelled p.0), t.1)
-
-reads_all : {A : Type 0} {f : Format A} → IsForm f → (bytes : List ℕ) (a : A) → f.Fits a → bytes ≡ f.spelled a → skipped f.read bytes ≡ Ok []
-reads_all {A} {f} is bytes a h e =
-    let read : f.read bytes ≡ Ok (a, []) = ap f.read (e ∙ sym (append-nil (f.spelled a))) ∙ is.reads_back a [] h in
-    rw read refl
+-- the body of the frame that is spelled
+pub spelled_body : (bytes rest : List ℕ) (g : Frame) → ((f : Frame) × Spells f bytes × (rest ≡ body f)) → Spells g bytes → rest ≡ body g
+spelled_body bytes rest g p s = p.2 ∙ ap body (one_frame p.0 g bytes p.1 s)
 
 -- a number that is read is the one that is spelled
-number_read : (low high n m : ℕ) (bytes rest more : List ℕ) → (low ≤ m) × (m < high) × (m < 2 ^ 32) → bytes ≡ word m ++ more
-    → within_at low high bytes ≡ Ok (n, rest) → (n ≡ m) × (rest ≡ more)
-number_read low high n m bytes rest more h e a =
+number_read : (n m : ℕ) (bytes rest more : List ℕ) → IsWord m → bytes ≡ word m ++ more → within_at 0 (2 ^ 32) bytes ≡ Ok (n, rest)
+    → (n ≡ m) × (rest ≡ more)
+number_read n m bytes rest more h e a =
     let found : ℕ × List ℕ = (n, rest) in
     let wanted : ℕ × List ℕ = (m, more) in
-    let same : found ≡ wanted = ok_is found wanted (sym a ∙ ap (within_at low high) e ∙ (within_is low high).reads_back m more h) in
+    let same : found ≡ wanted = ok_is found wanted (sym a ∙ ap (within_at 0 (2 ^ 32)) e ∙ (within_is 0 (2 ^ 32)).reads_back m more (omega arith, h, h)) in
     (ap (λ (y : ℕ × List ℕ). y.0) same, ap (λ (y : ℕ × List ℕ). y.1) same)
-
--- the fields of a well frame of a kind are passed over
-pub measures_read : (kind : ValueKind) (f : Frame) (bytes : List ℕ) → IsWell f → (kind_number kind ∷ bytes) ≡ body f → measures_skipped kind bytes ≡ Ok []
-unfolding values_fields sparse_fields
-measures_read kinds.Dense (frames.Values v) bytes well e = reads_all values_fields_is bytes v well (ap (drop 1) e)
-measures_read kinds.Sparse (frames.Sparse s) bytes well e = reads_all sparse_fields_is bytes s well (ap (drop 1) e)
-measures_read kind f bytes well e = absurd (omega (arith, ap (λ (bs : List ℕ). get_or bs 0 0) e))
-
--- and what is passed over are the fields of one
-measures_found : (kind : ValueKind) (bytes : List ℕ) → IsBytes bytes → measures_skipped kind bytes ≡ Ok []
-    → (f : Frame) × ((kind_number kind ∷ bytes) ≡ body f) × IsWell f
-unfolding values_fields sparse_fields
-measures_found kinds.Dense bytes h e = let p = read_all values_fields_is bytes h e in (frames.Values p.0, ap (λ (t : List ℕ). 3 ∷ t) p.1, p.2)
-measures_found kinds.Sparse bytes h e = let p = read_all sparse_fields_is bytes h e in (frames.Sparse p.0, ap (λ (t : List ℕ). 7 ∷ t) p.1, p.2)
 
 -- what the fields of a well frame of a kind are
 abbrev Parts : ValueKind → Frame → List ℕ → Type 0
@@ -124,71 +107,24 @@ parts_of kind f bytes well e =
     let o = measures_of kind f bytes well e in
     (o, ap (drop 1) (e ∙ ap body (sym o.same) ∙ body_is kind o.width o.list))
 
-pub fields_are : (kind : ValueKind) (width count : ℕ) (bytes list values : List ℕ) → IsBytes bytes → measures_skipped kind bytes ≡ Ok []
-    → within_at 0 32769 bytes ≡ Ok (width, list) → within_at 0 (2 ^ 32) list ≡ Ok (count, values) → AreFields bytes kind width values
-fields_are kind width count bytes list values h e a b =
-    let p = measures_found kind bytes h e in
-    let q = parts_of kind p.0 bytes p.2 p.1 in
+pub measures_left : (kind : ValueKind) (f : Frame) (width count : ℕ) (bytes list : List ℕ) (values : Bor (List ℕ)) → IsWell f
+    → (kind_number kind ∷ bytes) ≡ body f → within_at 0 (2 ^ 32) bytes ≡ Ok (width, list) → within_at 0 (2 ^ 32) list ≡ Ok (count, values.now)
+    → (ms : List Measured) × (f ≡ frame_of kind width ms) × IsLeft (record { kind = kind; width = width; bytes = values }) ms
+measures_left kind f width count bytes list values well e a b =
+    let q = parts_of kind f bytes well e in
     let few = q.0.measures.within in
     let countable = q.0.measures.countable in
-    let first = number_read 0 32769 width q.0.width bytes list _ (omega arith, omega (arith, few), omega (arith, few)) q.1 a in
-    let second = number_read 0 (2 ^ 32) count (length q.0.list) list values _ (omega arith, countable, countable) first.1 b in
-    let P : ℕ → Type 0 = λ w. AreFields bytes kind w values in
-    subst P (sym first.0) (record {
-      list = q.0.list;
-      well = well_of kind q.0.width q.0.list q.0.measures;
-      within = few;
-      each = q.0.measures.each;
-      whole = p.1 ∙ ap body (sym q.0.same);
-      last = second.1;
-    })
+    let first = number_read width q.0.width bytes list _ (omega (arith, few)) q.1 a in
+    let second = number_read count (length q.0.list) list values.now _ countable first.1 b in
+    let P : ℕ → Type 0 = λ w. (ms : List Measured) × (f ≡ frame_of kind w ms) × IsLeft (record { kind = kind; width = w; bytes = values }) ms in
+    subst P (sym first.0) (q.0.list, sym q.0.same, record { width = few; measures = q.0.measures.each; spelled = second.1 })
 
--- a number that is spelled is read
-no_number : (low high m : ℕ) (bytes more : List ℕ) (e : FieldFault) → (low ≤ m) × (m < high) × (m < 2 ^ 32) → bytes ≡ word m ++ more
-    → within_at low high bytes ≡ Err e → ⊥
-no_number low high m bytes more e h is a = absurd (cc (sym a ∙ ap (within_at low high) is ∙ (within_is low high).reads_back m more h))
-
-pub no_width : (kind : ValueKind) (f : Frame) (bytes : List ℕ) (e : FieldFault) → IsWell f → (kind_number kind ∷ bytes) ≡ body f
-    → within_at 0 32769 bytes ≡ Err e → ⊥
-no_width kind f bytes e well is a =
-    let q = parts_of kind f bytes well is in
-    let few = q.0.measures.within in
-    no_number 0 32769 q.0.width bytes _ e (omega arith, omega (arith, few), omega (arith, few)) q.1 a
-
-pub no_count : (kind : ValueKind) (f : Frame) (bytes list : List ℕ) (width : ℕ) (e : FieldFault) → IsWell f
-    → (kind_number kind ∷ bytes) ≡ body f → within_at 0 32769 bytes ≡ Ok (width, list) → within_at 0 (2 ^ 32) list ≡ Err e → ⊥
-no_count kind f bytes list width e well is a b =
-    let q = parts_of kind f bytes well is in
-    let few = q.0.measures.within in
-    let countable = q.0.measures.countable in
-    let first = number_read 0 32769 width q.0.width bytes list _ (omega arith, omega (arith, few), omega (arith, few)) q.1 a in
-    no_number 0 (2 ^ 32) (length q.0.list) list _ e (omega arith, countable, countable) first.1 b
-
-abbrev all_lines : Reader (List VertexLine)
-all_lines = (listed lines 0 (2 ^ 32) 0).read
-
-abbrev vertices_with : List VertexLine → Vertices
-vertices_with ls = record { lines = ls }
-
--- the lines of a well frame are passed over
-pub lines_read : (ls : List VertexLine) (bytes : List ℕ) → IsWell (frame_with ls) → (2 ∷ bytes) ≡ body (frame_with ls)
-    → skipped all_lines bytes ≡ Ok []
-unfolding vertices_fields
-lines_read ls bytes well e = sym (made_skipped vertices_with (all_lines bytes)) ∙ reads_all vertices_is bytes (vertices_with ls) well (ap (drop 1) e)
-
-pub lines_are : (count : ℕ) (bytes rest : List ℕ) → IsBytes bytes → skipped all_lines bytes ≡ Ok []
-    → within_at 0 (2 ^ 32) bytes ≡ Ok (count, rest) → AreLines bytes rest
-unfolding vertices_fields
-lines_are count bytes rest h e a =
-    let p = read_all vertices_is bytes h (made_skipped vertices_with (all_lines bytes) ∙ e) in
-    let ls = p.0.lines in
-    let first = number_read 0 (2 ^ 32) count (length ls) bytes rest (flat_map line ls) (omega arith, p.2.countable, p.2.countable) p.1 a in
-    record { list = ls; well = p.2; whole = ap (λ (t : List ℕ). 2 ∷ t) p.1; last = first.1 }
-
-pub no_lines : (ls : List VertexLine) (bytes : List ℕ) (e : FieldFault) → IsWell (frame_with ls) → (2 ∷ bytes) ≡ body (frame_with ls)
-    → within_at 0 (2 ^ 32) bytes ≡ Err e → ⊥
-no_lines ls bytes e well is a =
-    no_number 0 (2 ^ 32) (length ls) bytes (flat_map line ls) e (omega arith, well.countable, well.countable) (ap (drop 1) is) a
+pub lines_left : (f : Frame) (count : ℕ) (bytes : List ℕ) (rest : Bor (List ℕ)) → IsWell f → (2 ∷ bytes) ≡ body f
+    → within_at 0 (2 ^ 32) bytes ≡ Ok (count, rest.now) → (ls : List VertexLine) × (f ≡ frame_with ls) × AreLeft (record { bytes = rest }) ls
+lines_left (frames.Vertices v) count bytes rest well e a =
+    let first = number_read count (length v.lines) bytes rest.now _ well.countable (ap (drop 1) e) a in
+    (v.lines, refl, record { lines = well.lines; rising = well.rising; spelled = first.1 })
+lines_left f count bytes rest well e a = absurd (omega (arith, ap (λ (bs : List ℕ). get_or bs 0 0) e))
 
 -- ---- the list of a measure
 

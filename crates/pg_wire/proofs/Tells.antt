@@ -2,11 +2,11 @@
 use Rattle.pg_wire.proofs.Common.{◌≡◌, ℕ, suc, ◌<◌, ◌≤◌, List, [], ◌∷◌, ◌++◌, map, get_or, Option, Some, None, refl, sym, ap, ◌∙◌, arith}
 use Rattle.pg_wire.proofs.Common.{All, IfSome, option_map, AllPairs, length-map, All-map, flat_map-map, AllPairs-cons, Value, SparseValue}
 use Rattle.pg_wire.proofs.Common.{Frame, ValueKind, Dense, Sparse, word, counted, value, sparse_value, body, IsCountable, IsComponents}
-use Rattle.pg_wire.proofs.Common.{IsValue, ArePlaces, IsSparseValue, IsWell, Measured, IsMeasured, nonzero, filled, dense_value}
+use Rattle.pg_wire.proofs.Common.{ArePlaces, IsSparseValue, IsWell, Measured, IsMeasured, nonzero, filled, dense_value}
 use Rattle.pg_wire.proofs.Common.{sparse_form, told_values, told_sparse, spelled_as, kind_number, frame_of, TellsMeasures}
 use Rattle.pg_wire.specs.declared.frame.Frame.TheVariants as frames
 use Rattle.pg_wire.proofs.Orders.{pairs_head, pairs_tail}
-use Rattle.pg_wire.proofs.Filling.{nonzero_filled, filled_nonzero, places_nonzero, components_filled}
+use Rattle.pg_wire.proofs.Filling.{nonzero_filled, filled_nonzero, components_filled}
 
 -- measures that a frame of this width can tell
 pub record AreMeasures (width : ℕ) (ms : List Measured) : Type 0 where
@@ -58,29 +58,9 @@ sparse_told width (m ∷ ms) h =
     ap (λ (o : Option (List ℕ)). (m.0, o) ∷ told_sparse width (map sparse_form ms)) (components_again width m.1 (h 0 m (omega arith)).list)
     ∙ ap (λ (ns : List Measured). m ∷ ns) (sparse_told width ms (λ i d lt. h (suc i) d (omega arith)))
 
--- ---- frames of measures are well
-
-places_of : (width : ℕ) (o : Option (List ℕ)) → IfSome o (IsComponents width) → IfSome (option_map nonzero o) (ArePlaces width)
-places_of width None h = tt
-places_of width (Some ns) h = places_nonzero width ns h
-
 components_of : (width : ℕ) (o : Option (List (ℕ × ℕ))) → IfSome o (ArePlaces width) → IfSome (option_map (filled width) o) (IsComponents width)
 components_of width None h = tt
 components_of width (Some ps) h = components_filled width ps h
-
-pub well_of : (kind : ValueKind) (width : ℕ) (ms : List Measured) → AreMeasures width ms → IsWell (frame_of kind width ms)
-well_of Dense width ms h = record {
-  width = h.within;
-  countable = rw length-map h.countable;
-  values = All-map (IsValue width) dense_value ms (λ i d lt. record { vertex = (h.each i d lt).vertex; list = (h.each i d lt).list });
-  rising = pairs_map dense_value (λ x y. x.vertex < y.vertex) ms h.rising;
-}
-well_of Sparse width ms h = record {
-  width = h.within;
-  countable = rw length-map h.countable;
-  values = All-map (IsSparseValue width) sparse_form ms (λ i d lt. record { vertex = (h.each i d lt).vertex; pairs = places_of width _ (h.each i d lt).list });
-  rising = pairs_map sparse_form (λ x y. x.vertex < y.vertex) ms h.rising;
-}
 
 -- a well frame of this kind tells measures
 pub measures_of : (kind : ValueKind) (f : Frame) (bytes : List ℕ) → IsWell f → (kind_number kind ∷ bytes) ≡ body f → IsOf kind f

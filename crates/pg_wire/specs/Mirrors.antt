@@ -3,5 +3,4 @@ pub mod Reading
 pub mod Formats
 pub mod Ordered
 pub mod Buffers
-pub mod Streaming
 pub mod Lengths

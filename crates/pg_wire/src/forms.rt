@@ -1,29 +1,24 @@
 //! The kinds of lists in frames.
-ghost use Rattle.std.specs.Prelude.{◌+◌, ◌≤◌, ◌↔◌, IsTrue, IfOk, length};
-ghost use Rattle.pg_wire.specs.Mirrors.Reading.{Gives};
-ghost use Rattle.pg_wire.specs.Mirrors.Formats.{tagged, all_components, some_places};
+ghost use Rattle.std.specs.Prelude.{◌^◌, ◌<◌, ◌↔◌, IsTrue, IfOk, length};
+ghost use Rattle.pg_wire.specs.Mirrors.Reading.{Yields, both, within_at, byte_at};
+ghost use Rattle.pg_wire.specs.Mirrors.Formats.{line_head, counted_as};
 ghost use Rattle.pg_wire.specs.Well.{IsComponents, ArePlaces};
 
 use crate::fault::{FieldFault, ReadFault};
 use crate::fields::{WORDS, byte, odd, pair, within};
 use crate::form::{Form, are_ordered, counted, items, skip_counted, skip_items};
-use crate::frame::{SparseValue, Value, VertexLine};
-use crate::list::{Items, Numbers, Pairs};
+use crate::frame::{LineHead, SparseValue, Value, VertexLine};
+use crate::list::Items;
 use std::alloc::Global;
 
 /// The successors of a vertex, in rising order.
 pub struct SuccessorForm;
 
 impl Form for SuccessorForm {
-    ghost use Rattle.std.proofs.Common.{arith};
     ghost use Rattle.pg_wire.specs.Mirrors.Ordered.{rising};
     ghost use Rattle.pg_wire.specs.Mirrors.Formats.{successors};
 
     type Item = u32;
-
-    ghost SIZE = { 4 };
-
-    const SIZE: usize = 4;
 
     ghost kind = { λ _. successors };
 
@@ -45,8 +40,6 @@ impl Form for SuccessorForm {
         place <= *item as u64
     }
 
-    ghost some = { Prim.omega arith };
-
     ghost steps = { λ _. rising (λ n. n) };
 }
 
@@ -54,15 +47,10 @@ impl Form for SuccessorForm {
 pub struct BoundForm;
 
 impl Form for BoundForm {
-    ghost use Rattle.std.proofs.Common.{arith};
     ghost use Rattle.pg_wire.specs.Mirrors.Ordered.{falling};
     ghost use Rattle.pg_wire.specs.Mirrors.Formats.{bounds};
 
     type Item = (u32, u32);
-
-    ghost SIZE = { 8 };
-
-    const SIZE: usize = 8;
 
     ghost kind = { λ _. bounds };
 
@@ -89,8 +77,6 @@ impl Form for BoundForm {
         (priority as u64) < place && priority % 2 == 1 && priority <= 65_535 && bound >= 1
     }
 
-    ghost some = { Prim.omega arith };
-
     ghost steps = { λ _. falling (λ p. p.0) };
 }
 
@@ -98,15 +84,10 @@ impl Form for BoundForm {
 pub struct ComponentForm;
 
 impl Form for ComponentForm {
-    ghost use Rattle.std.proofs.Common.{arith};
     ghost use Rattle.pg_wire.specs.Mirrors.Ordered.{in_any_order};
     ghost use Rattle.pg_wire.specs.Mirrors.Formats.{components};
 
     type Item = u32;
-
-    ghost SIZE = { 4 };
-
-    const SIZE: usize = 4;
 
     ghost kind = { λ _. components };
 
@@ -129,8 +110,6 @@ impl Form for ComponentForm {
         true
     }
 
-    ghost some = { Prim.omega arith };
-
     ghost steps = { λ _. in_any_order };
 }
 
@@ -138,15 +117,10 @@ impl Form for ComponentForm {
 pub struct PlaceForm;
 
 impl Form for PlaceForm {
-    ghost use Rattle.std.proofs.Common.{arith};
     ghost use Rattle.pg_wire.specs.Mirrors.Ordered.{rising};
     ghost use Rattle.pg_wire.specs.Mirrors.Formats.{places};
 
     type Item = (u32, u32);
-
-    ghost SIZE = { 8 };
-
-    const SIZE: usize = 8;
 
     ghost kind = { places };
 
@@ -174,24 +148,36 @@ impl Form for PlaceForm {
         place <= at as u64 && at < width && number >= 1
     }
 
-    ghost some = { Prim.omega arith };
-
     ghost steps = { λ _. rising (λ p. p.0) };
+}
+
+/// Reads the head of a line, whose vertex is at least `place`, and the number of its successors.
+#[tactic(auto, unfolding(crate::specs::Mirrors::Formats::line_head))]
+#[inline(always)]
+pub fn head(place: u64, bytes: &[u8]) -> Result<(LineHead, u32, &[u8]), FieldFault>
+    ensures read { Yields (λ x. (counted_as x.0 x.1, x.2.now)) result ((line_head place).read bytes.now) }
+    ensures less { IfOk result (λ x. length x.2.now < length bytes.now) }
+{
+    let (vertex, rest) = within(place, WORDS, bytes)?;
+    let (priority, rest) = within(0, 65_537, rest)?;
+    let (owner, rest) = byte(2, rest)?;
+    let (count, rest) = within(1, WORDS, rest)?;
+    let head = LineHead {
+        vertex,
+        priority,
+        owner,
+    };
+    Ok((head, count, rest))
 }
 
 /// The lines of vertices, by rising vertex.
 pub struct LineForm;
 
 impl Form for LineForm {
-    ghost use Rattle.std.proofs.Common.{arith};
     ghost use Rattle.pg_wire.specs.Mirrors.Ordered.{rising};
     ghost use Rattle.pg_wire.specs.Mirrors.Formats.{lines};
 
     type Item = VertexLine;
-
-    ghost SIZE = { 17 };
-
-    const SIZE: usize = 17;
 
     ghost kind = { λ _. lines };
 
@@ -202,28 +188,22 @@ impl Form for LineForm {
         place: u64,
         bytes: &[u8],
     ) -> Result<(VertexLine, &[u8]), ReadFault> {
-        let (vertex, rest) = within(place, WORDS, bytes)?;
-        let (priority, rest) = within(0, 65_537, rest)?;
-        let (owner, rest) = byte(2, rest)?;
-        let (successors, rest) = counted::<SuccessorForm>(alloc, 0, 1, WORDS, 0, rest)?;
-        Ok((
-            VertexLine {
-                vertex,
-                priority,
-                owner,
-                successors,
-            },
-            rest,
-        ))
+        let (head, count, rest) = head(place, bytes)?;
+        let (successors, rest) = items::<SuccessorForm>(alloc, 0, count, 0, rest)?;
+        let line = VertexLine {
+            vertex: head.vertex,
+            priority: head.priority,
+            owner: head.owner,
+            successors: Items::new(successors),
+        };
+        Ok((line, rest))
     }
 
     #[tactic(auto, using(crate::proofs::Skip::passed, crate::proofs::Skip::refused), unfolding(crate::specs::Mirrors::Formats::line))]
     fn skip(_: u32, place: u64, bytes: &[u8]) -> Result<(u64, &[u8]), FieldFault> {
-        let (vertex, rest) = within(place, WORDS, bytes)?;
-        let (_, rest) = within(0, 65_537, rest)?;
-        let (_, rest) = byte(2, rest)?;
-        let rest = skip_counted::<SuccessorForm>(0, 1, WORDS, 0, rest)?;
-        Ok((vertex as u64 + 1, rest))
+        let (head, count, rest) = head(place, bytes)?;
+        let rest = skip_items::<SuccessorForm>(0, count, 0, rest)?;
+        Ok((head.vertex as u64 + 1, rest))
     }
 
     fn place_after_item(line: &VertexLine) -> u64 {
@@ -240,27 +220,18 @@ impl Form for LineForm {
             && are_ordered::<SuccessorForm>(0, 0, successors)
     }
 
-    ghost some = { Prim.omega arith };
-
     ghost steps = { λ _. rising (λ l. l.vertex) };
 }
 
-/// Reads a tag, and after tag 0 a list of `width` numbers; after tag 1 there is none.
-#[tactic(auto, unfolding(crate::specs::Mirrors::Reading::tagged_at))]
-fn components(
-    alloc: Global,
-    width: u32,
-    bytes: &[u8],
-) -> Result<(Option<Numbers>, &[u8]), ReadFault>
-    ensures read { Gives (λ x. (x.0, x.1.now)) result ((tagged (all_components width)).read bytes.now) }
-    ensures size { IfOk result (λ x. 1 + length x.1.now ≤ length bytes.now) }
+/// Reads the vertex of a measure, which is at least `place`, and the tag after it: 0 if a list follows, 1 for top.
+#[inline(always)]
+pub fn value_head(place: u64, bytes: &[u8]) -> Result<(u32, u8, &[u8]), FieldFault>
+    ensures read { Yields (λ x. ((x.0, x.1), x.2.now)) result (both (within_at place (2 ^ 32)) (λ _. byte_at 2) bytes.now) }
+    ensures less { IfOk result (λ x. length x.2.now < length bytes.now) }
 {
-    let (tag, rest) = byte(2, bytes)?;
-    if tag != 0 {
-        return Ok((None, rest));
-    }
-    let (numbers, rest) = items::<ComponentForm>(alloc, 0, width, 0, rest)?;
-    Ok((Some(Items::new(numbers)), rest))
+    let (vertex, rest) = within(place, WORDS, bytes)?;
+    let (tag, rest) = byte(2, rest)?;
+    Ok((vertex, tag, rest))
 }
 
 /// Whether a list has one number for each place of the width.
@@ -274,34 +245,32 @@ fn are_components(width: u32, numbers: &[u32]) -> bool
 pub struct ValueForm;
 
 impl Form for ValueForm {
-    ghost use Rattle.std.proofs.Common.{arith};
     ghost use Rattle.pg_wire.specs.Mirrors.Ordered.{rising};
     ghost use Rattle.pg_wire.specs.Mirrors.Formats.{values};
 
     type Item = Value;
 
-    ghost SIZE = { 5 };
-
-    const SIZE: usize = 5;
-
     ghost kind = { values };
 
-    #[tactic(auto, unfolding(crate::specs::Mirrors::Formats::value))]
+    #[tactic(auto, unfolding(crate::specs::Mirrors::Formats::value, crate::specs::Mirrors::Reading::headed_at))]
     fn read(
         alloc: Global,
         width: u32,
         place: u64,
         bytes: &[u8],
     ) -> Result<(Value, &[u8]), ReadFault> {
-        let (vertex, rest) = within(place, WORDS, bytes)?;
-        let (list, rest) = components(alloc, width, rest)?;
+        let (vertex, tag, rest) = value_head(place, bytes)?;
+        if tag != 0 {
+            return Ok((Value { vertex, list: None }, rest));
+        }
+        let (list, rest) = items::<ComponentForm>(alloc, 0, width, 0, rest)?;
+        let list = Some(Items::new(list));
         Ok((Value { vertex, list }, rest))
     }
 
-    #[tactic(auto, using(crate::proofs::Skip::passed, crate::proofs::Skip::refused), unfolding(crate::specs::Mirrors::Formats::value, crate::specs::Mirrors::Reading::tagged_at))]
+    #[tactic(auto, using(crate::proofs::Skip::passed, crate::proofs::Skip::refused), unfolding(crate::specs::Mirrors::Formats::value, crate::specs::Mirrors::Reading::headed_at))]
     fn skip(width: u32, place: u64, bytes: &[u8]) -> Result<(u64, &[u8]), FieldFault> {
-        let (vertex, rest) = within(place, WORDS, bytes)?;
-        let (tag, rest) = byte(2, rest)?;
+        let (vertex, tag, rest) = value_head(place, bytes)?;
         if tag != 0 {
             return Ok((vertex as u64 + 1, rest));
         }
@@ -321,23 +290,7 @@ impl Form for ValueForm {
         place <= item.vertex as u64 && fits
     }
 
-    ghost some = { Prim.omega arith };
-
     ghost steps = { λ _. rising (λ v. v.vertex) };
-}
-
-/// Reads a tag, and after tag 0 the pairs of a frame of this width; after tag 1 there are none.
-#[tactic(auto, unfolding(crate::specs::Mirrors::Reading::tagged_at))]
-fn places(alloc: Global, width: u32, bytes: &[u8]) -> Result<(Option<Pairs>, &[u8]), ReadFault>
-    ensures read { Gives (λ x. (x.0, x.1.now)) result ((tagged (some_places width)).read bytes.now) }
-    ensures size { IfOk result (λ x. 1 + length x.1.now ≤ length bytes.now) }
-{
-    let (tag, rest) = byte(2, bytes)?;
-    if tag != 0 {
-        return Ok((None, rest));
-    }
-    let (pairs, rest) = counted::<PlaceForm>(alloc, width, 0, width as u64 + 1, 0, rest)?;
-    Ok((Some(pairs), rest))
 }
 
 /// Whether the places rise and are below the width.
@@ -351,34 +304,36 @@ fn are_places(width: u32, pairs: &[(u32, u32)]) -> bool
 pub struct SparseValueForm;
 
 impl Form for SparseValueForm {
-    ghost use Rattle.std.proofs.Common.{arith};
     ghost use Rattle.pg_wire.specs.Mirrors.Ordered.{rising};
     ghost use Rattle.pg_wire.specs.Mirrors.Formats.{sparse_values};
 
     type Item = SparseValue;
 
-    ghost SIZE = { 5 };
-
-    const SIZE: usize = 5;
-
     ghost kind = { sparse_values };
 
-    #[tactic(auto, unfolding(crate::specs::Mirrors::Formats::sparse_value))]
+    #[tactic(auto, unfolding(crate::specs::Mirrors::Formats::sparse_value, crate::specs::Mirrors::Reading::headed_at))]
     fn read(
         alloc: Global,
         width: u32,
         place: u64,
         bytes: &[u8],
     ) -> Result<(SparseValue, &[u8]), ReadFault> {
-        let (vertex, rest) = within(place, WORDS, bytes)?;
-        let (pairs, rest) = places(alloc, width, rest)?;
+        let (vertex, tag, rest) = value_head(place, bytes)?;
+        if tag != 0 {
+            let value = SparseValue {
+                vertex,
+                pairs: None,
+            };
+            return Ok((value, rest));
+        }
+        let (pairs, rest) = counted::<PlaceForm>(alloc, width, 0, width as u64 + 1, 0, rest)?;
+        let pairs = Some(pairs);
         Ok((SparseValue { vertex, pairs }, rest))
     }
 
-    #[tactic(auto, using(crate::proofs::Skip::passed, crate::proofs::Skip::refused), unfolding(crate::specs::Mirrors::Formats::sparse_value, crate::specs::Mirrors::Reading::tagged_at))]
+    #[tactic(auto, using(crate::proofs::Skip::passed, crate::proofs::Skip::refused), unfolding(crate::specs::Mirrors::Formats::sparse_value, crate::specs::Mirrors::Reading::headed_at))]
     fn skip(width: u32, place: u64, bytes: &[u8]) -> Result<(u64, &[u8]), FieldFault> {
-        let (vertex, rest) = within(place, WORDS, bytes)?;
-        let (tag, rest) = byte(2, rest)?;
+        let (vertex, tag, rest) = value_head(place, bytes)?;
         if tag != 0 {
             return Ok((vertex as u64 + 1, rest));
         }
@@ -397,8 +352,6 @@ impl Form for SparseValueForm {
         };
         place <= item.vertex as u64 && fits
     }
-
-    ghost some = { Prim.omega arith };
 
     ghost steps = { λ _. rising (λ v. v.vertex) };
 }

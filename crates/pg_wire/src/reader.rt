@@ -1,21 +1,17 @@
 //! Reads the measures of a frame one after another, from its bytes, without taking memory.
-ghost use Rattle.std.specs.Prelude.{◌≡◌, ◌≢◌, ◌+◌, ◌*◌, ◌≤◌, ◌<◌, ◌∷◌, List, Some, None, IfSome, IfOk, OnErr, length, cond, true};
+ghost use Rattle.std.specs.Prelude.{◌≡◌, ◌≢◌, ◌+◌, ◌*◌, ◌≤◌, ◌<◌, List, Some, None, IfSome, IfOk, OnErr, length, cond, true};
 ghost use Rattle.pg_wire.specs.declared.kind.ValueKind.{ValueKind};
 ghost use Rattle.pg_wire.specs.declared.frame.Frame.{Frame};
-ghost use Rattle.pg_wire.specs.Spelling.{body};
-ghost use Rattle.pg_wire.specs.Well.{IsWell};
 ghost use Rattle.pg_wire.specs.Bytes.{Spells};
 ghost use Rattle.pg_wire.specs.Measured.{Measured, filled, kind_number, frame_of, TellsMeasures};
 ghost use Rattle.pg_wire.specs.Mirrors.Reading.{Yields, made};
 ghost use Rattle.pg_wire.specs.Mirrors.Formats.{all_components, so_many, places, measure, measured};
-ghost use Rattle.pg_wire.specs.Mirrors.Streaming.{measures_skipped, AreFields};
 
 use crate::fault::FieldFault;
-use crate::fields::{WORDS, byte, pair, within};
-use crate::form::skip_counted;
-use crate::forms::{SparseValueForm, ValueForm};
+use crate::fields::{WORDS, pair, within};
+use crate::forms::value_head;
 use crate::kind::ValueKind;
-use crate::reading::after_length;
+use crate::reading::body_of;
 
 /// Reads the measures that are left of a frame.
 #[derive(Clone, Copy)]
@@ -23,38 +19,6 @@ pub struct ValuesReader<'a> {
     kind: ValueKind,
     width: u32,
     bytes: &'a [u8],
-}
-
-/// Returns the bytes after the fields of a frame of measures. It takes no memory.
-#[tactic(auto, using(crate::proofs::Skip::passed, crate::proofs::Skip::refused), unfolding(crate::specs::Mirrors::Formats::values_fields, crate::specs::Mirrors::Formats::sparse_fields))]
-fn skip_fields(kind: ValueKind, bytes: &[u8]) -> Result<&[u8], FieldFault>
-    ensures { Yields (λ x. x.now) result (measures_skipped kind bytes.now) }
-{
-    let (width, rest) = within(0, 32_769, bytes)?;
-    match kind {
-        ValueKind::Dense => Ok(skip_counted::<ValueForm>(width, 0, WORDS, 0, rest)?),
-        ValueKind::Sparse => Ok(skip_counted::<SparseValueForm>(width, 0, WORDS, 0, rest)?),
-    }
-}
-
-/// Returns the width and the bytes of the measures if the bytes are the fields of a frame of measures, and None otherwise.
-fn fields(kind: ValueKind, bytes: &[u8]) -> Option<(u32, &[u8])>
-    ensures found { IfSome result (λ x. AreFields bytes.now kind x.0 x.1.now) }
-    ensures all { (f : Frame) → IsWell f → (kind_number kind ∷ bytes.now) ≡ body f → result ≢ None }
-{
-    let Ok(rest) = skip_fields(kind, bytes) else {
-        return None;
-    };
-    if !rest.is_empty() {
-        return None;
-    }
-    let Ok((width, list)) = within(0, 32_769, bytes) else {
-        return None;
-    };
-    let Ok((_, values)) = within(0, WORDS, list) else {
-        return None;
-    };
-    Some((width, values))
 }
 
 /// Reads the next numbers into the row, one for each of its places, and returns the bytes after them.
@@ -121,7 +85,7 @@ fn read_list<'a>(
 
 /// Reads the next vertex. Returns it, whether its measure is top, and the bytes after the measure. If the measure isn't
 /// top, its list is in the row.
-#[tactic(auto, unfolding(crate::specs::Mirrors::Formats::measured, crate::specs::Mirrors::Reading::tagged_at))]
+#[tactic(auto, unfolding(crate::specs::Mirrors::Formats::measured, crate::specs::Mirrors::Reading::headed_at))]
 #[inline(always)]
 fn read_value<'a>(
     kind: ValueKind,
@@ -135,8 +99,7 @@ fn read_value<'a>(
     ensures kept { IfOk result (λ x. x.1 ≡ true → row.new ≡ row.old) }
     ensures less { IfOk result (λ x. length x.2.now < length bytes.now) }
 {
-    let (vertex, rest) = within(0, WORDS, bytes)?;
-    let (tag, rest) = byte(2, rest)?;
+    let (vertex, tag, rest) = value_head(0, bytes)?;
     if tag != 0 {
         return Ok((vertex, true, rest));
     }
@@ -166,11 +129,16 @@ impl<'a> ValuesReader<'a> {
             × IsLeft r ms) }
         ensures all { (f : Frame) → TellsMeasures f → Spells f bytes.now → result ≢ None }
     {
-        match after_length(bytes)? {
+        match body_of(bytes)? {
             [] => None,
             [number, rest @ ..] => {
                 let kind = kind_of(*number)?;
-                let (width, bytes) = fields(kind, rest)?;
+                let Ok((width, list)) = within(0, WORDS, rest) else {
+                    return None;
+                };
+                let Ok((_, bytes)) = within(0, WORDS, list) else {
+                    return None;
+                };
                 Some(ValuesReader { kind, width, bytes })
             }
         }

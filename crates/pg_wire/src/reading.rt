@@ -1,7 +1,7 @@
 //! Reads frames from bytes.
 ghost use Rattle.std.specs.Prelude.{◌≡◌, ◌≢◌, ◌⊎◌, Ok, Err, IfOk, IfErr, IfSome, IfNone, ◌↔◌};
-ghost use Rattle.pg_wire.specs.Mirrors.Reading.{Gives, made};
-ghost use Rattle.pg_wire.specs.Mirrors.Formats.{setup_fields, vertices_fields, values_fields, sparse_fields, go_fields, report_fields, frame_at, body_at};
+ghost use Rattle.pg_wire.specs.Mirrors.Reading.{Yields, Gives, skipped};
+ghost use Rattle.pg_wire.specs.Mirrors.Formats.{setup_fields, frame_at, body_at};
 ghost use Rattle.pg_wire.specs.Mirrors.Lengths.{IsCounted};
 ghost use Rattle.pg_wire.specs.Spelling.{body};
 ghost use Rattle.pg_wire.specs.Well.{IsWell};
@@ -11,7 +11,7 @@ ghost use Rattle.pg_wire.specs.declared.fault.WireFault.TheVariants.{TooLong, Tr
 
 use crate::fault::{FieldFault, ReadFault, WireFault};
 use crate::fields::{WORDS, byte, code, version, within};
-use crate::form::counted;
+use crate::form::{counted, skip_counted};
 use crate::forms::{BoundForm, LineForm, SparseValueForm, ValueForm};
 use crate::frame::{Frame, Go, Report, Setup, Sparse, Values, Vertices};
 use byteorder::{BigEndian, ByteOrder};
@@ -36,9 +36,75 @@ pub fn after_length(bytes: &[u8]) -> Option<&[u8]>
     Some(rest)
 }
 
+/// Returns the bytes after the fields of a frame of this kind. It takes no memory.
+#[tactic(auto, using(crate::proofs::Skip::passed, crate::proofs::Skip::refused), unfolding(crate::specs::Mirrors::Formats::frame_at, crate::specs::Mirrors::Formats::setup_fields, crate::specs::Mirrors::Formats::vertices_fields, crate::specs::Mirrors::Formats::values_fields, crate::specs::Mirrors::Formats::sparse_fields, crate::specs::Mirrors::Formats::go_fields, crate::specs::Mirrors::Formats::report_fields))]
+fn skip_fields(kind: u8, bytes: &[u8]) -> Result<&[u8], FieldFault>
+    ensures { Yields (λ x. x.now) result (skipped (frame_at kind) bytes.now) }
+{
+    match kind {
+        1 => {
+            let (_, rest) = version(bytes)?;
+            let (_, rest) = within(1, 1_048_577, rest)?;
+            Ok(skip_counted::<BoundForm>(0, 0, WORDS, 65_536, rest)?)
+        }
+        2 => Ok(skip_counted::<LineForm>(0, 0, WORDS, 0, bytes)?),
+        3 => {
+            let (width, rest) = within(0, 32_769, bytes)?;
+            Ok(skip_counted::<ValueForm>(width, 0, WORDS, 0, rest)?)
+        }
+        4 => {
+            let (_, rest) = within(0, WORDS, bytes)?;
+            Ok(rest)
+        }
+        5 => {
+            let (status, rest) = byte(3, bytes)?;
+            let (_, rest) = code(status, rest)?;
+            Ok(rest)
+        }
+        6 => Ok(bytes),
+        7 => {
+            let (width, rest) = within(0, 32_769, bytes)?;
+            Ok(skip_counted::<SparseValueForm>(width, 0, WORDS, 0, rest)?)
+        }
+        _ => Err(FieldFault::Kind),
+    }
+}
+
+/// Finds the first fault in the bytes after a length, if they are the body of no frame. It takes no memory.
+#[tactic(auto, using(crate::proofs::Skip::passed, crate::proofs::Skip::refused), unfolding(crate::specs::Mirrors::Formats::body_at))]
+fn check_body(bytes: &[u8]) -> Result<(), FieldFault>
+    ensures body { IfOk result (λ _. (f : Frame) × (body_at bytes.now ≡ Ok f)) }
+    ensures fault { IfErr result (λ e. body_at bytes.now ≡ Err e) }
+{
+    match bytes {
+        [] => Err(FieldFault::Kind),
+        [kind, rest @ ..] => {
+            let rest = skip_fields(*kind, rest)?;
+            if rest.is_empty() {
+                Ok(())
+            } else {
+                Err(FieldFault::At(rest.len()))
+            }
+        }
+    }
+}
+
+/// Returns the bytes after the length, where all of the bytes spell a frame. It takes no memory.
+pub fn body_of(bytes: &[u8]) -> Option<&[u8]>
+    ensures found { IfSome result (λ rest. (f : Frame) × Spells f bytes.now × (rest.now ≡ body f)) }
+    ensures none { IfNone result ((f : Frame) → Spells f bytes.now → ⊥) }
+{
+    let rest = after_length(bytes)?;
+    match check_body(rest) {
+        Ok(()) => Some(rest),
+        Err(_) => None,
+    }
+}
+
+/// Reads the fields of a set-up.
 #[tactic(auto, unfolding(crate::specs::Mirrors::Formats::setup_fields))]
-fn setup(alloc: Global, bytes: &[u8]) -> Result<(Frame, &[u8]), ReadFault>
-    ensures { Gives (λ x. (x.0, x.1.now)) result (made Frame.Setup setup_fields.read bytes.now) }
+fn setup(alloc: Global, bytes: &[u8]) -> Result<(Setup, &[u8]), ReadFault>
+    ensures { Gives (λ x. (x.0, x.1.now)) result (setup_fields.read bytes.now) }
 {
     let (version, rest) = version(bytes)?;
     let (vertices, rest) = within(1, 1_048_577, rest)?;
@@ -48,82 +114,58 @@ fn setup(alloc: Global, bytes: &[u8]) -> Result<(Frame, &[u8]), ReadFault>
         vertices,
         bounds,
     };
-    Ok((Frame::Setup(setup), rest))
+    Ok((setup, rest))
 }
 
-#[tactic(auto, unfolding(crate::specs::Mirrors::Formats::vertices_fields))]
-fn vertices(alloc: Global, bytes: &[u8]) -> Result<(Frame, &[u8]), ReadFault>
-    ensures { Gives (λ x. (x.0, x.1.now)) result (made Frame.Vertices vertices_fields.read bytes.now) }
-{
-    let (lines, rest) = counted::<LineForm>(alloc, 0, 0, WORDS, 0, bytes)?;
-    Ok((Frame::Vertices(Vertices { lines }), rest))
-}
-
-#[tactic(auto, unfolding(crate::specs::Mirrors::Formats::values_fields))]
-fn values(alloc: Global, bytes: &[u8]) -> Result<(Frame, &[u8]), ReadFault>
-    ensures { Gives (λ x. (x.0, x.1.now)) result (made Frame.Values values_fields.read bytes.now) }
-{
-    let (width, rest) = within(0, 32_769, bytes)?;
-    let (values, rest) = counted::<ValueForm>(alloc, width, 0, WORDS, 0, rest)?;
-    Ok((Frame::Values(Values { width, values }), rest))
-}
-
-#[tactic(auto, unfolding(crate::specs::Mirrors::Formats::sparse_fields))]
-fn sparse(alloc: Global, bytes: &[u8]) -> Result<(Frame, &[u8]), ReadFault>
-    ensures { Gives (λ x. (x.0, x.1.now)) result (made Frame.Sparse sparse_fields.read bytes.now) }
-{
-    let (width, rest) = within(0, 32_769, bytes)?;
-    let (values, rest) = counted::<SparseValueForm>(alloc, width, 0, WORDS, 0, rest)?;
-    Ok((Frame::Sparse(Sparse { width, values }), rest))
-}
-
-#[tactic(auto, unfolding(crate::specs::Mirrors::Formats::go_fields))]
-fn go(bytes: &[u8]) -> Result<(Frame, &[u8]), ReadFault>
-    ensures { Gives (λ x. (x.0, x.1.now)) result (made Frame.Go go_fields.read bytes.now) }
-{
-    let (budget, rest) = within(0, WORDS, bytes)?;
-    Ok((Frame::Go(Go { budget }), rest))
-}
-
-#[tactic(auto, unfolding(crate::specs::Mirrors::Formats::report_fields))]
-fn report(bytes: &[u8]) -> Result<(Frame, &[u8]), ReadFault>
-    ensures { Gives (λ x. (x.0, x.1.now)) result (made Frame.Report report_fields.read bytes.now) }
-{
-    let (status, rest) = byte(3, bytes)?;
-    let (code, rest) = code(status, rest)?;
-    Ok((Frame::Report(Report { status, code }), rest))
-}
-
-#[tactic(auto, unfolding(crate::specs::Mirrors::Formats::frame_at))]
+/// Reads the fields of a frame of this kind.
+#[tactic(auto, unfolding(crate::specs::Mirrors::Formats::frame_at, crate::specs::Mirrors::Formats::vertices_fields, crate::specs::Mirrors::Formats::values_fields, crate::specs::Mirrors::Formats::sparse_fields, crate::specs::Mirrors::Formats::go_fields, crate::specs::Mirrors::Formats::report_fields))]
 fn frame(alloc: Global, kind: u8, bytes: &[u8]) -> Result<(Frame, &[u8]), ReadFault>
     ensures { Gives (λ x. (x.0, x.1.now)) result (frame_at kind bytes.now) }
 {
     match kind {
-        1 => setup(alloc, bytes),
-        2 => vertices(alloc, bytes),
-        3 => values(alloc, bytes),
-        4 => go(bytes),
-        5 => report(bytes),
+        1 => {
+            let (setup, rest) = setup(alloc, bytes)?;
+            Ok((Frame::Setup(setup), rest))
+        }
+        2 => {
+            let (lines, rest) = counted::<LineForm>(alloc, 0, 0, WORDS, 0, bytes)?;
+            Ok((Frame::Vertices(Vertices { lines }), rest))
+        }
+        3 => {
+            let (width, rest) = within(0, 32_769, bytes)?;
+            let (values, rest) = counted::<ValueForm>(alloc, width, 0, WORDS, 0, rest)?;
+            Ok((Frame::Values(Values { width, values }), rest))
+        }
+        4 => {
+            let (budget, rest) = within(0, WORDS, bytes)?;
+            Ok((Frame::Go(Go { budget }), rest))
+        }
+        5 => {
+            let (status, rest) = byte(3, bytes)?;
+            let (code, rest) = code(status, rest)?;
+            Ok((Frame::Report(Report { status, code }), rest))
+        }
         6 => Ok((Frame::Halt, bytes)),
-        7 => sparse(alloc, bytes),
+        7 => {
+            let (width, rest) = within(0, 32_769, bytes)?;
+            let (values, rest) = counted::<SparseValueForm>(alloc, width, 0, WORDS, 0, rest)?;
+            Ok((Frame::Sparse(Sparse { width, values }), rest))
+        }
         _ => Err(ReadFault::Field(FieldFault::Kind)),
     }
 }
 
-/// Reads the frame from the bytes after its length, all of them.
+/// Reads the frame that all of the bytes after a length give. It takes memory only after it has checked them.
 #[tactic(auto, unfolding(crate::specs::Mirrors::Formats::body_at))]
 fn frame_of_body(alloc: Global, bytes: &[u8]) -> Result<Frame, ReadFault>
     ensures { Gives (λ x. x) result (body_at bytes.now) }
 {
+    check_body(bytes)?;
     match bytes {
         [] => Err(ReadFault::Field(FieldFault::Kind)),
         [kind, rest @ ..] => {
-            let (f, rest) = frame(alloc, *kind, rest)?;
-            if rest.is_empty() {
-                Ok(f)
-            } else {
-                Err(ReadFault::Field(FieldFault::At(rest.len())))
-            }
+            let (frame, _) = frame(alloc, *kind, rest)?;
+            Ok(frame)
         }
     }
 }

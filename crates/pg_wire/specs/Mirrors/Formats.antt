@@ -5,6 +5,7 @@ use Rattle.std.specs.List.{flat_map}
 use Rattle.pg_wire.specs.declared.fault.FieldFault.{FieldFault}
 use Rattle.pg_wire.specs.declared.fault.FieldFault.TheVariants as faults
 use Rattle.pg_wire.specs.declared.frame.Setup.{Setup}
+use Rattle.pg_wire.specs.declared.frame.LineHead.{LineHead}
 use Rattle.pg_wire.specs.declared.frame.VertexLine.{VertexLine}
 use Rattle.pg_wire.specs.declared.frame.Vertices.{Vertices}
 use Rattle.pg_wire.specs.declared.frame.Value.{Value}
@@ -23,7 +24,7 @@ use Rattle.pg_wire.specs.Measured.{Measured, IsMeasured, nonzero, filled, spelle
 use Rattle.pg_wire.specs.Well.{IsWord, IsBound, IsSetup, IsVertexLine, IsVertices, IsComponents, IsValue, IsValues, IsPlace, ArePlaces}
 use Rattle.pg_wire.specs.Well.{IsSparseValue, IsSparse, IsFaultCode, IsReport}
 use Rattle.pg_wire.specs.Mirrors.Ordered.{AreOrdered}
-use Rattle.pg_wire.specs.Mirrors.Reading.{◌>>=◌, Reader, both, made, within_at, odd_at, byte_at, version_at, code_at, items_at, counted_at, tagged_at}
+use Rattle.pg_wire.specs.Mirrors.Reading.{◌>>=◌, Reader, both, made, within_at, odd_at, byte_at, version_at, code_at, items_at, counted_at, headed_at}
 
 pub record Format (A : Type 0) : Type 1 where
   pub spelled : A → List ℕ
@@ -42,9 +43,6 @@ said Fits f = record { spelled = f.spelled; Fits = Fits; read = f.read }
 abbrev pub seen : {A B : Type 0} → (A → B) → (B → A) → (B → Type 0) → Format A → Format B
 seen make parts Fits f = record { spelled = λ b. f.spelled (parts b); Fits = Fits; read = made make f.read }
 
-abbrev pub tagged : {A : Type 0} → Format A → Format (Option A)
-tagged f = record { spelled = spelling.tagged f.spelled; Fits = λ o. IfSome o f.Fits; read = tagged_at f.read }
-
 -- ---- numbers and bytes
 
 -- a number from low on, below high
@@ -53,6 +51,14 @@ within low high = record { spelled = word; Fits = λ n. (low ≤ n) × (n < high
 
 abbrev pub number : ℕ → Format ℕ
 number low = said (λ n. (low ≤ n) × IsWord n) (within low (2 ^ 32))
+
+-- a vertex, at least `low`, and what follows its tag
+abbrev pub headed : {A : Type 0} → ℕ → Format A → Format (ℕ × Option A)
+headed low f = record {
+  spelled = λ p. word p.0 ++ spelling.tagged f.spelled p.1;
+  Fits = λ p. ((low ≤ p.0) × IsWord p.0) × IfSome p.1 f.Fits;
+  read = headed_at low f.read;
+}
 
 abbrev pub odd : ℕ → Format ℕ
 odd high = record { spelled = word; Fits = λ n. (n < high) × IsWord n × (n % 2 ≡ 1); read = odd_at high }
@@ -147,10 +153,20 @@ place width low = and_then (within low width) (λ _. number 1)
 abbrev pub places : ℕ → Kind (ℕ × ℕ)
 places width = rising (λ p. p.0) pair (IsPlace width) (λ low. (place width low).read)
 
+-- what stands before the successors of a line: its head, and how many successors there are
+abbrev pub Counted : Type 0
+Counted = ℕ × (ℕ × (ℕ × ℕ))
+
+unfoldable pub line_head : ℕ → Format Counted
+line_head low = and_then (number low) (λ _. and_then (within 0 65537) (λ _. and_then (byte 2) (λ _. number 1)))
+
+abbrev pub counted_as : LineHead → ℕ → Counted
+counted_as head count = (head.vertex, (head.priority, (head.owner, count)))
+
 unfoldable pub line : ℕ → Format VertexLine
-line low = seen (λ p. record { vertex = p.0; priority = p.1.0; owner = p.1.1.0; successors = p.1.1.1 })
-    (λ l. (l.vertex, (l.priority, (l.owner, l.successors)))) (λ l. (low ≤ l.vertex) × IsVertexLine l)
-    (and_then (number low) (λ _. and_then (within 0 65537) (λ _. and_then (byte 2) (λ _. listed successors 1 (2 ^ 32) 0))))
+line low = seen (λ p. record { vertex = p.0.0; priority = p.0.1.0; owner = p.0.1.1.0; successors = p.1 })
+    (λ l. ((l.vertex, (l.priority, (l.owner, length l.successors))), l.successors)) (λ l. (low ≤ l.vertex) × IsVertexLine l)
+    (and_then (line_head low) (λ h. so_many successors h.1.1.1 0))
 
 abbrev pub lines : Kind VertexLine
 lines = rising (λ l. l.vertex) spelling.line IsVertexLine (λ low. (line low).read)
@@ -160,7 +176,7 @@ all_components width = said (IsComponents width) (so_many components width 0)
 
 unfoldable pub value : ℕ → ℕ → Format Value
 value width low = seen (λ p. record { vertex = p.0; list = p.1 }) (λ v. (v.vertex, v.list)) (λ v. (low ≤ v.vertex) × IsValue width v)
-    (and_then (number low) (λ _. tagged (all_components width)))
+    (headed low (all_components width))
 
 abbrev pub values : ℕ → Kind Value
 values width = rising (λ v. v.vertex) spelling.value (IsValue width) (λ low. (value width low).read)
@@ -170,7 +186,7 @@ some_places width = said (ArePlaces width) (listed (places width) 0 (width + 1) 
 
 unfoldable pub sparse_value : ℕ → ℕ → Format SparseValue
 sparse_value width low = seen (λ p. record { vertex = p.0; pairs = p.1 }) (λ v. (v.vertex, v.pairs)) (λ v. (low ≤ v.vertex) × IsSparseValue width v)
-    (and_then (number low) (λ _. tagged (some_places width)))
+    (headed low (some_places width))
 
 abbrev pub sparse_values : ℕ → Kind SparseValue
 sparse_values width = rising (λ v. v.vertex) spelling.sparse_value (IsSparseValue width) (λ low. (sparse_value width low).read)
@@ -182,7 +198,7 @@ measure Dense width = all_components width
 measure SparseKind width = seen (filled width) nonzero (IsComponents width) (some_places width)
 
 unfoldable pub measured : ValueKind → ℕ → ℕ → Format Measured
-measured kind width low = and_then (number low) (λ _. tagged (measure kind width))
+measured kind width low = headed low (measure kind width)
 
 abbrev pub measures : ValueKind → ℕ → Kind Measured
 measures kind width = rising (λ m. m.0) (spelled_as kind) (IsMeasured width) (λ low. (measured kind width low).read)

@@ -1,5 +1,5 @@
 -- The private readers: a field is read from the start of the bytes that are left.
-use Rattle.std.specs.Prelude.{◌≡◌, ℕ, zero, suc, ◌%◌, List, [], ◌∷◌, length, take, drop, Bool, Option, Some, None, Result, Ok}
+use Rattle.std.specs.Prelude.{◌≡◌, ℕ, zero, suc, ◌%◌, ◌^◌, List, [], ◌∷◌, length, take, drop, Bool, Option, Some, None, Result, Ok}
 use Rattle.std.specs.Prelude.{Err, nat_lt, nat_le, ◌==◌, ◌&&◌, ◌||◌, if◌then◌else◌}
 use Rattle.std.specs.Int.{w32, from_be_bytes}
 use Rattle.pg_wire.specs.declared.fault.FieldFault.{FieldFault}
@@ -82,9 +82,10 @@ code_at status bytes = byte_at 19 bytes >>= λ c. if is_code status c.0 then Ok 
 unfoldable pub counted_at : {A : Type 0} → (ℕ → Reader A) → (A → ℕ) → ℕ → ℕ → ℕ → Reader (List A)
 counted_at item next least high at bytes = within_at least high bytes >>= λ n. items_at item next n.0 at n.1
 
--- a tag, and a value after tag 0
-unfoldable pub tagged_at : {A : Type 0} → Reader A → Reader (Option A)
-tagged_at read bytes = byte_at 2 bytes >>= λ t. if t.0 == 0 then made Some read t.1 else Ok (None, t.1)
+-- a vertex, at least `low`, and a tag, and a value if the tag is 0
+unfoldable pub headed_at : {A : Type 0} → ℕ → Reader A → Reader (ℕ × Option A)
+headed_at low read bytes = both (within_at low (2 ^ 32)) (λ _. byte_at 2) bytes
+    >>= λ h. if h.0.1 == 0 then made (λ x. (h.0.0, Some x)) read h.1 else Ok ((h.0.0, None), h.1)
 
 -- there is a byte
 abbrev pub HasBytes : List ℕ → Type 0
