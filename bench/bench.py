@@ -5,10 +5,10 @@ a script of 200,000 events with 6 workers.
 
     bench/bench.py [PROGRAM] [--only WORD] [--repeats N] [--limit SECONDS] [--words WORDS] [--beside OTHER]
 
-PROGRAM is crates/parsolve/out/parsolve where none is given. WORD picks the cases whose names have it; WORDS are further
-words for the program. OTHER is a program with the same commands (it may lack some): its figures stand beside, and how many
-times its processor seconds and its memory the program takes. A run over the limit is ended, and its case isn't repeated. The games
-are those of families.py, the automata those of random_automata.py, the scripts those of schedules.py.
+By default PROGRAM is crates/parsolve/out/parsolve. WORD picks the cases whose names contain it; WORDS are further words for
+PROGRAM. OTHER is a program with the same commands (it can lack some): its figures are printed beside PROGRAM's, and how many times
+OTHER's processor seconds and memory PROGRAM takes. A run over the limit is ended, and its case isn't repeated. The games are those of
+families.py, the automata those of random_automata.py, the scripts those of schedules.py.
 """
 import argparse
 import os
@@ -115,7 +115,7 @@ def options():
 
 
 def once(words, source, limit):
-    """(processor seconds, seconds, megabytes at the peak) of one run, or None where it took more processor seconds than the limit or
+    """(processor seconds, seconds, megabytes at the peak) of one run, or None if it took more processor seconds than the limit or
     wasn't answered."""
     with open(source, "rb") as text, open(os.devnull, "wb") as sink:
         start = time.time()
@@ -138,8 +138,8 @@ def best(words, source, given):
 
 
 def prepare(source, command, sizes, given):
-    """Writes the input of a case, and answers whether that was possible within the limit: `check` needs a solution. This
-    is left to other processes, since the peak of a run is at least what the process that starts it has had."""
+    """Writes the input of a case, and answers whether that was possible within the limit: `check` needs a solution. Other
+    processes do this, since the peak of a run is at least that of the process that starts it."""
     family, *numbers = sizes
     makers = {"automaton": ["random_automata.py", *numbers], "labels": ["random_automata.py", "--labels", *numbers]}
     maker = makers.get(family, ["families.py", *sizes])

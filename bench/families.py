@@ -1,7 +1,7 @@
 #!/usr/bin/env python3
 """Families of games of any size, the same on every machine.
 
-    bench/families.py FAMILY A B [SEED]         prints a game; what A and B are, the families below say
+    bench/families.py FAMILY A B [SEED]         prints a game; the families below say what A and B are
     bench/families.py --solution FAMILY A B     prints a solution of the game, for a family that Even wins without a choice
 """
 import sys
@@ -79,7 +79,7 @@ def ladder(a, b, dice):
 
 
 def clique(a, b, dice):
-    """a vertices, each with its own priority and an edge to each other one"""
+    """a vertices, each with its own priority and an edge to each other vertex"""
     for i in range(a):
         yield i, i % 2, [j for j in range(a) if j != i]
 
@@ -108,7 +108,7 @@ def elevator(a, b, dice):
 
 
 def sparse(a, b, dice):
-    """a vertices as of a model checker, mostly of priorities 0 and 2, and b of priority 1 or 3"""
+    """a vertices as from a model checker, mostly of priorities 0 and 2, and b of priority 1 or 3"""
     game = []
     for i in range(a):
         successors = [dice.below(a) if dice.one_in(4) else (i + dice.between(1, 20)) % a for _ in range(dice.between(1, 3))]
@@ -156,7 +156,7 @@ def wide(a, b, dice):
 
 
 def hubs(a, b, dice):
-    """a vertices of priorities up to b, every second of which may go to a loop that its owner wins: few lifts in the game
+    """a vertices of priorities up to b, every second of which can go to a loop that its owner wins: few lifts in the game
     and in its dual"""
     yield b + b % 2 + 2, 0, [0]
     yield b + b % 2 + 1, 1, [1]
@@ -174,7 +174,7 @@ def loops(a, b, dice):
 
 
 def repeats(a, b, dice):
-    """a vertices, each with itself as its one successor, which stands there b times"""
+    """a vertices, each with itself as its one successor, which is listed b times"""
     for v in range(a):
         yield v % 2, v % 2, [v] * b
 
@@ -189,8 +189,8 @@ def hard(a, b, dice):
 
 
 def priorities(a, b, dice):
-    """a vertices of Odd and b priorities, won by Even: of an odd priority one vertex of the next follows, of others two anywhere.
-    Without those of the greatest priorities most of the others are still one component"""
+    """a vertices of Odd and b priorities, won by Even: a vertex of odd priority has one successor, of the next priority, others have two
+    anywhere. Without those of the greatest priorities most of the others are still one component"""
     for i in range(a):
         p = i % b
         if p % 2 == 0:
@@ -258,7 +258,7 @@ def rising_hub(a, b, dice):
 
 
 def named(game):
-    """Vertices in the order of their names; successors that no vertex has the name of are left out."""
+    """Vertices in the order of their names; successors whose name no vertex has are left out."""
     places = {name: place for place, name in enumerate(game)}
     for priority, owner, successors in game.values():
         yield priority, owner, [places[name] for name in successors if name in places]
@@ -298,7 +298,7 @@ def memory(a, b, dice):
 
 
 def longway(a, b, dice):
-    """a vertices in a row, behind which Odd may go back to the first over each of b odd priorities: its best play goes all the way for each"""
+    """a vertices in a row, after which Odd can go back to the first over each of b odd priorities: its best play goes all the way for each"""
     game = {("row", i): (0, 1, [("row", i + 1) if i + 1 < a else ("v", 0)]) for i in range(a)}
     for i in range(b):
         game["v", i] = 0, 1, [("w", i), ("v", i + 1) if i + 1 < b else "end"]
@@ -310,7 +310,7 @@ def longway(a, b, dice):
 
 
 def cells(a):
-    """Where a cell stands, of four in each of a layers behind two vertices that the layers share; nowhere outside of the layers."""
+    """The vertex of a cell, of four in each of a layers, which follow two vertices that the layers share; none outside the layers."""
     return lambda cell, layer: [2 + 4 * layer + cell] if 0 <= layer < a else []
 
 
@@ -342,8 +342,8 @@ FIRST, LAST, ALL_BELOW = "first", "last", "all below"
 
 
 def laid(common, cells, layers):
-    """Cells that stand in each layer, but for the first ones, which all layers share. A cell has a priority, how much that grows from layer
-    to layer, an owner, whether owners take turns, and successors: a cell and its layer, which is one of these names or counts from here."""
+    """Cells that are in each layer, except for the first ones, which all layers share. A cell has a priority, its growth from layer to
+    layer, an owner, whether owners take turns, and successors: a cell and its layer, which is one of these names or counts from here."""
     size = len(cells) - common
     least = min(priority + min(0, growth * (layers - 1)) for priority, growth, *_ in cells)
     raised = -least + least % 2 if least < 0 else 0
@@ -466,7 +466,7 @@ def geometric(a, b, dice):
 
 
 def switches(a, b, dice):
-    """a bits of a counter, after Friedmann's lower bound for strategy improvement; where b is odd the dual"""
+    """a bits of a counter, after Friedmann's lower bound for strategy improvement; if b is odd, the dual"""
     count, end = 20 * a, ["x"]
     game = {"x": (1, 1, end)}
     game["s"] = count + 2, 0, [("f", j) for j in range(1, a + 1)] + end

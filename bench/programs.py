@@ -10,8 +10,8 @@ coded.
     bench/programs.py game_speed        game_of on such automata
 
 A program is a crate of one file, `NAME.rt.txt`; it is built in a copy of the repository's crates, with what was proved of
-them, so that no more than the program and what isn't proved yet is proved. The copy is removed at the end; where a folder is
-named as a second word, it is made there and kept for the next run.
+them, so that only the program and what isn't proved yet is proved. The copy is removed at the end; if a second word names a
+folder, it is made there and kept for the next run.
 """
 import pathlib
 import random

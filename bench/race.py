@@ -1,13 +1,13 @@
 #!/usr/bin/env python3
 """Times a program beside others that solve games: the processor seconds and the peak memory of its `solve`, `solve --any`, `measure` and
-`check`, and of each other program on the same games. The last columns are how many times the seconds and the memory of the quickest of
-these `solve` takes, and `solve --any`.
+`check`, and of each other program on the same games. The last columns say how many times the seconds and the memory of the quickest other
+program `solve` takes, and `solve --any`.
 
     bench/race.py PROGRAM [OTHER..] [--only WORD] [--repeats N] [--limit SECONDS]
 
-OTHER is a command line, as one word, that reads a game and prints a solution, as 'other solve'. A run over the limit of processor
-seconds is late, and so is what has no solution to check. A solution that PROGRAM's `check` doesn't call sound is WRONG, whoever
-printed it. The quickest of the runs counts. WORD picks the cases whose names have it; the games are those of families.py.
+OTHER is a command line, as one word, that reads a game and prints a solution, such as 'other solve'. A run over the limit of processor
+seconds is late, and so is a check without a solution. A solution that PROGRAM's `check` doesn't call sound is WRONG, whichever
+program printed it. The quickest of the runs counts. WORD picks the cases whose names contain it; the games are those of families.py.
 """
 import argparse
 import os
@@ -78,7 +78,7 @@ def options():
 
 
 class Race:
-    """One case: a game in a file, and the solutions that programs print of it."""
+    """One case: a game in a file, and the solutions that programs print for it."""
 
     def __init__(self, given, folder, sizes):
         self.given, self.game, self.text = given, os.path.join(folder, "game"), os.path.join(folder, "text")
@@ -87,7 +87,7 @@ class Race:
             subprocess.run([sys.executable, os.path.join(here, "families.py"), *sizes], stdout=out, check=True)
 
     def best(self, words, source):
-        """The quickest of the runs, or None where one is late."""
+        """The quickest of the runs, or None if one is late."""
         runs = []
         for _ in range(self.given.repeats):
             runs.append(once(words, source, self.given.limit))
@@ -96,7 +96,7 @@ class Race:
         return min(runs)
 
     def check(self, words):
-        """The figures of `check` on what a program prints of the game, or None where it isn't called sound."""
+        """The figures of `check` on what a program prints for the game, or None if it isn't called sound."""
         with open(self.game, "rb") as game, open(self.solution, "wb") as out:
             subprocess.run(words, stdin=game, stdout=out, stderr=subprocess.DEVNULL, check=True)
         with open(self.text, "wb") as out:
@@ -106,7 +106,7 @@ class Race:
         return self.best([self.given.program, "check"], self.text) if said.stdout == b"WINS\n" else None
 
     def solve(self, words):
-        """(the figures of a program that solves the game or None where it is late, those of `check` likewise, whether it is wrong)"""
+        """(the figures of a program that solves the game or None if it is late, those of `check` or None, whether it is wrong)"""
         solved = self.best(words, self.game)
         checked = solved and self.check(words)
         return solved, checked, bool(solved) and not checked

@@ -1,13 +1,13 @@
 #!/usr/bin/env python3
 """Automata of any size, the same on every machine.
 
-    bench/random_automata.py STATES PROPOSITIONS SETS [SEED]      prints a deterministic automaton that is complete, with a parity
+    bench/random_automata.py STATES PROPOSITIONS SETS [SEED]      prints a complete deterministic automaton with a parity
                                                            condition on its edges; the first half of the propositions is
                                                            controllable
     bench/random_automata.py --labels BYTES PROPOSITIONS LITERALS [SEED]
-                                                           prints an automaton of one state with so many bytes of edges that
-                                                           lead back to it, whose labels are sums of so many literals,
-                                                           or `f` with none
+                                                           prints an automaton of one state with this many bytes of edges that
+                                                           lead back to it, whose labels are sums of this many literals,
+                                                           or `f` if there are none
 """
 import sys
 
@@ -28,7 +28,7 @@ def header(states, propositions, sets):
 
 
 def condition(sets):
-    """That the greatest set which is met again and again is even."""
+    """The condition that the greatest set that recurs is even."""
     said = "Inf(0)"
     for k in range(1, sets):
         said = f"Inf({k}) | ({said})" if k % 2 == 0 else f"Fin({k}) & ({said})"

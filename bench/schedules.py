@@ -1,7 +1,7 @@
 #!/usr/bin/env python3
 """Schedules of any size for games of the family `loops`, the same on every machine.
 
-    bench/schedules.py KIND VERTICES WORKERS EVENTS [SEED]  prints a script of so many events, without faults
+    bench/schedules.py KIND VERTICES WORKERS EVENTS [SEED]  prints a script of this many events, without faults
     bench/schedules.py times [PROGRAM]                      what events cost as the game grows, and as the script does
 
 The kinds are `mixed`, and `delivered` and `lifted`, in which every second event is a restart.
@@ -17,8 +17,8 @@ here = os.path.dirname(os.path.abspath(__file__))
 
 
 def mixed(vertices, workers, count, dice):
-    """Half of the events are lifts, each of which makes an update in `loops`, and few restarts; the others deliver updates of
-    late, or any, to a replica."""
+    """Half of the events are lifts, each of which makes an update in `loops`, and few restarts; the others deliver recent
+    updates, or any, to a replica."""
     made = 0
     for _ in range(count):
         kind = dice.below(1000)
@@ -66,22 +66,22 @@ def write(out, kind, vertices, workers, count, seed=1):
 
 
 def write_game(out, vertices):
-    """Writes the game of a script, and the line that parts the two."""
+    """Writes the game of a script, and the line that separates the two."""
     out.flush()
     subprocess.run([sys.executable, os.path.join(here, "families.py"), "loops", str(vertices), "4"], stdout=out, check=True)
     out.write("--\n")
 
 
 def seconds(program, source):
-    """The seconds that the quickest of three runs takes, or None where the program fails or needs more than two minutes."""
+    """The seconds that the quickest of three runs takes, or None if the program fails or needs more than two minutes."""
     from bench import once
     runs = [once([program, "replay"], source, 120) for _ in range(3)]
     return None if None in runs else min(run[1] for run in runs)
 
 
 def times(program, workers=6):
-    """Prints what a script takes, what of this its events take (the rest is that of a script of one event), and the ratio of
-    the latter to the number of events."""
+    """Prints the time of a script, the part of it that its events take (the rest is the time of a script of one event), and the
+    ratio of this part to the number of events."""
     print(f"{'kind':10} {'vertices':>9} {'events':>9} {'seconds':>9} {'of events':>10} {'us an event':>12}")
     with tempfile.TemporaryDirectory() as folder:
         source = os.path.join(folder, "input")

@@ -1,13 +1,13 @@
 #!/usr/bin/env python3
 """Prints examples/arbiter.hoa: an arbiter of four clients that share a resource, as a deterministic automaton.
 
-Client c asks by `request_c`, which the environment sets, and is served by `grant_c`, which the controller sets. A client
+Client c asks with `request_c`, which the environment sets, and is served by `grant_c`, which the controller sets. A client
 that asks waits until it is served, and nobody waits for ever. At most one client is served in a step, and only one that
 asks or waits; a step that breaks this has no edge.
 
-A state says who waits, and whose turn it is. The turn stays at a client until it is served, and then goes round to the next
-one that waits. The set 0 stands on each edge with which the turn goes on, or after which nobody waits: so it recurs exactly
-if nobody waits for ever.
+A state says who waits, and whose turn it is. The turn stays with a client until it is served, and then goes round to the next
+one that waits. Set 0 is on each edge with which the turn goes on, or after which nobody waits: so it recurs exactly if
+nobody waits for ever.
 """
 import itertools
 
@@ -25,7 +25,7 @@ controllable-AP: {own}
 
 
 def turn_after(turn, waiting):
-    """The first client from this one on, going round, that waits; None where nobody does."""
+    """The first client from this one on, going round, that waits; None if nobody does."""
     return next((c % COUNT for c in range(turn, turn + COUNT) if c % COUNT in waiting), None)
 
 
@@ -37,7 +37,7 @@ def label(waiting, asking, served):
 
 
 def labels(turn, waiting):
-    """For each state that follows, and whether the set is met, the labels that lead there."""
+    """The labels that lead to each next state, by that state and whether the set is met."""
     found = {}
     others = sorted(set(range(COUNT)) - waiting)
     for asking in itertools.chain.from_iterable(itertools.combinations(others, n) for n in range(len(others) + 1)):
@@ -49,7 +49,7 @@ def labels(turn, waiting):
 
 
 def body():
-    """How many states there are, and the lines of the body."""
+    """The number of states, and the lines of the body."""
     numbers, states, lines = {(None, frozenset()): 0}, [(None, frozenset())], []
     for turn, waiting in states:  # it grows as states are met
         lines.append(f'State: {numbers[turn, waiting]} "turn {turn}, waiting {sorted(waiting)}"' if waiting else "State: 0")

@@ -1,13 +1,13 @@
 #!/usr/bin/env python3
 """Prints examples/lift.hoa: a lift between three floors, as a deterministic automaton.
 
-Somebody at floor f calls it by `call_f`, which the environment sets. The controller sets `up`, `down` and `open`, at most one of them
+Somebody at floor f calls it with `call_f`, which the environment sets. The controller sets `up`, `down` and `open`, at most one of them
 in a step: the lift goes to the next floor, or its door opens. It can't go up from the uppermost floor, nor down from the lowest one,
 and its door opens only at a floor from which it was called. A step that breaks this has no edge. A call waits until the door opens at
 its floor, and no call waits for ever.
 
 A state says where the lift is, from which floors it is called, and whose turn it is. The turn stays at a floor until that is served, and
-then goes round to the next one that waits. The set 0 stands on each edge with which the turn goes on, or after which no call waits: so it
+then goes round to the next one that waits. Set 0 is on each edge with which the turn goes on, or after which no call waits: so it
 recurs exactly if no call waits for ever.
 """
 import itertools
@@ -27,7 +27,7 @@ MOVES = {"up": "3&!4&!5", "down": "!3&4&!5", "open": "!3&!4&5", "stay": "!3&!4&!
 
 
 def after(floor, waiting, move):
-    """Where the lift is after a move and from which floors it is called then; None where it can't make the move."""
+    """Where the lift is after a move, and the floors from which it is called then; None if it can't make the move."""
     goal = floor + {"up": 1, "down": -1}.get(move, 0)
     if goal not in FLOORS or (move == "open" and floor not in waiting):
         return None
@@ -35,12 +35,12 @@ def after(floor, waiting, move):
 
 
 def turn_after(turn, waiting):
-    """The first floor from this one on, going round, from which it is called; None where there is none."""
+    """The first floor from this one on, going round, from which it is called; None if there is none."""
     return next((f % len(FLOORS) for f in range(turn, turn + len(FLOORS)) if f % len(FLOORS) in waiting), None)
 
 
 def labels(floor, waiting, turn):
-    """For each state that follows, and whether the set is met, the labels that lead there."""
+    """The labels that lead to each next state, by that state and whether the set is met."""
     found = {}
     for calls in itertools.product((False, True), repeat=len(FLOORS)):
         asked = waiting | {f for f in FLOORS if calls[f]}
@@ -55,7 +55,7 @@ def labels(floor, waiting, turn):
 
 
 def body():
-    """How many states there are, and the lines of the body."""
+    """The number of states, and the lines of the body."""
     first = 0, frozenset(), None
     numbers, states, lines = {first: 0}, [first], []
     for floor, waiting, turn in states:  # it grows as states are met

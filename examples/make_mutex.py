@@ -9,7 +9,7 @@ or to none, never to both. A token names the client whose turn it is, and goes o
     ctl  T AB   the arbiter's turn: priority 0
 
 Every client that asks is served again and again exactly if the token goes on for ever, that is if priority 2 recurs:
-the greatest recurring priority is then 2, and else 1. The arbiter wins everywhere by serving the token's client.
+the greatest recurring priority is then 2, otherwise 1. The arbiter wins everywhere by serving the token's client.
 """
 def number(kind, turn, a, b):
     return {"env": 0, "pass": 8, "ctl": 16}[kind] + (turn - 1) * 4 + 2 * a + b

@@ -1,9 +1,9 @@
 """Runs commands whose workers are programs of their own: the program itself, programs that pretend to be a worker
-(pretender.py), programs that aren't there. Each run has to end with the right answer, in time, and each program that it started has
-to have ended then; so has a worker whose solver was killed. Without the tables in /proc no worker is heard, and some checks fail."""
+(pretender.py), programs that don't exist. Each run must end with the right answer, in time, and by then each program that it started
+must have ended; so must a worker whose solver was killed. Without the tables in /proc no worker is heard, and some checks fail."""
 import ast
 import ctypes
-import encodings.idna  # noqa: F401: who connects as another user may not be able to read it any more
+import encodings.idna  # noqa: F401: a process that connects as another user might no longer be able to read it
 import fcntl
 import os
 import pathlib
@@ -27,7 +27,7 @@ import pretender
 
 PRETENDER = pathlib.Path(__file__).resolve().parent / "pretender.py"
 FAMILIES = pathlib.Path(__file__).resolve().parent.parent / "bench/families.py"
-LIMIT = 90  # seconds after which a run is said to hang: a command gives its programs sixty in all
+LIMIT = 90  # seconds after which a run counts as hanging: a command gives its programs sixty in all
 
 TWO = "parity 1;\n0 1 0 0,1;\n1 2 1 0;\n"
 TOPS = "parity 1;\n0 1 0 0;\n1 3 0 0;\n"
@@ -57,7 +57,7 @@ def begin():
 
 
 def left_behind(grace):
-    """How many programs were left running, or not waited for; they are waited for, and killed after so many seconds."""
+    """How many programs were left running, or not waited for; it waits for them, and kills them after `grace` seconds."""
     count, until = 0, time.monotonic() + grace
     while True:
         try:
@@ -76,7 +76,7 @@ def left_behind(grace):
 
 
 class Run:
-    """A run of a program; `path` is what is started as a worker, the name of a pretender or a path."""
+    """A run of a program; `path` names the worker to start: the name of a pretender, or a path."""
 
     def __init__(self, program, command, text, path, workers=1):
         self.program, self.command, self.text, self.path, self.workers = program, command, text, path, workers
@@ -85,7 +85,7 @@ class Run:
         return f"{self.command} --workers {self.workers} --apart {self.path} ({os.path.basename(self.program)})"
 
     def make(self, folder, **more):
-        """Runs it, and sets what it answered."""
+        """Runs it, keeps its answer, and says why it didn't end as it should, or None."""
         path = self.path
         if path and "/" not in path:
             path = os.path.join(folder, path)
@@ -104,7 +104,7 @@ class Run:
         return f"{left} programs were left behind" if left else None
 
     def differs(self, status, output, errors=""):
-        """Why it isn't this answer, or None."""
+        """Why the answer isn't this one, or None."""
         found, wanted = (self.status, self.output, self.errors), (status, output, errors)
         return None if found == wanted else f"{found!r}, wanted {wanted!r}"
 
@@ -114,22 +114,22 @@ class Run:
 
 
 def answers(program, command, text, path, workers=1, within=LIMIT):
-    """The right answer comes, within so many seconds."""
+    """The right answer comes within the given seconds."""
     run, start = Run(program, command, text, path, workers), time.monotonic()
     why, took = run.answers(ANSWERS[command, text]), time.monotonic() - start
     return str(run), why or (f"took {took:.0f} seconds" if took > within else None)
 
 
 def says(program, command, text, path, status, output, errors=""):
-    """What the programs say is believed as far as it goes."""
+    """The worker programs' values are believed as far as they go."""
     run = Run(program, command, text, path)
     with tempfile.TemporaryDirectory() as folder:
         return str(run), run.make(folder) or run.differs(status, output, errors)
 
 
 def to_and_fro(count):
-    """A game, and its measures. Each vertex but the last has the next as its successor, which is in the other one of two programs'
-    parts: in a round each measure rises by one, until it is how many vertices come behind."""
+    """A game, and its measures. Each vertex but the last has the next as its successor, which is in the part of the other of two
+    programs: in a round each measure rises by one, up to the number of vertices after it."""
     order = [v // 2 + v % 2 * (count // 2) for v in range(count)]
     lines = [f"{v} 1 0 {w};\n" for v, w in zip(order, order[1:])] + [f"{order[-1]} 2 0 {order[-1]};\n"]
     behind = {v: count - 1 - place for place, v in enumerate(order)}
@@ -138,15 +138,15 @@ def to_and_fro(count):
 
 
 def ends_where_values_go_to_and_fro(program, path, count=400):
-    """The programs are given up before all measures have risen, for the number of rounds or for the time that these take, and the
-    answer is the same."""
+    """The solver gives the programs up before all measures have risen, because of the number of rounds or the time that they take, and
+    the answer is the same."""
     text, measures = to_and_fro(count)
     run = Run(program, "measure", text, path, 2)
     return f"{run}, to and fro", run.answers(measures)
 
 
 def leaves_what_programs_start(program):
-    """Each program that the command starts has ended when it has, and what that one started in turn is left alone."""
+    """Each program that the command starts has ended when the command ends, and programs that it started in turn are left alone."""
     run = Run(program, "measure", TWO, "leaves_another")
     with tempfile.TemporaryDirectory() as folder:
         why = run.make(folder)
@@ -160,7 +160,7 @@ def children_of(number):
 
 
 def workers_end_when_the_command_is_killed(program, count=800_000):
-    """Worker programs whose solver is killed amid its rounds end by themselves."""
+    """Worker programs whose solver is killed in the middle of its rounds end by themselves."""
     words = [program, "measure", "--workers", "4", "--apart", program]
     ran = subprocess.Popen(words, stdin=subprocess.PIPE, stdout=subprocess.DEVNULL, text=True)
     ran.stdin.write(to_and_fro(count)[0])
@@ -187,7 +187,7 @@ def wins_or_is_undecided(program, text, seed, lie="random_values"):
 
 
 def lies_are_harmless(program, command, seed):
-    """Workers that say top of some of their vertices: what is printed of a random game goes by closed maps all the same."""
+    """Workers that say top for some of their vertices: the answer for a random game follows closed maps all the same."""
     dice = random.Random(seed)
     game = {v: (dice.randint(0, 5), dice.randint(0, 1), dice.sample(range(12), 2)) for v in range(12)}
     text = naive.game_text(game)
@@ -202,13 +202,13 @@ def lies_are_harmless(program, command, seed):
 
 
 def lies_slow_nothing(program):
-    """A game whose measures climb far is solved in time, though workers say top of some of its vertices."""
+    """A game whose measures climb far is solved in time, though workers say top for some of its vertices."""
     text = subprocess.run([sys.executable, FAMILIES, "hard", "5000", "0"], capture_output=True, text=True, check=True).stdout
     return wins_or_is_undecided(program, text, 1, "top_somewhere")
 
 
 def killed_at_each_frame(program, command, text):
-    """One of two programs is killed behind its N-th frame, N rising until it doesn't send as many."""
+    """One of two programs is killed after its N-th frame, for rising N until it sends fewer."""
     for count in range(1000):
         run = Run(program, command, text, f"killed_after_{count}", 2)
         with tempfile.TemporaryDirectory() as folder:
@@ -232,7 +232,7 @@ def starts_anew(program):
 
 
 def answer_for_another(listener):
-    """Connects to the port that a program names, ahead of that program, and says top for each vertex there."""
+    """Connects to the port that a program names, before that program does, and says top for each vertex there."""
     told, _ = listener.accept()
     port = int(told.makefile().readline())
     worker = pretender.Worker(pretender.top_everywhere)
@@ -243,7 +243,7 @@ def answer_for_another(listener):
 
 
 def others_stay_out(program):
-    """A connection of another program, which is there first, doesn't stand in for that of the program that was started."""
+    """A connection of another program, which is there first, isn't taken for that of the program that was started."""
     run = Run(program, "measure", TWO, "after_another")
     with socket.create_server(("127.0.0.1", 0)) as listener, tempfile.TemporaryDirectory() as folder:
         threading.Thread(target=answer_for_another, args=[listener], daemon=True).start()
@@ -257,7 +257,7 @@ SIOCSIFFLAGS, IFF_UP = 0x8914, 1
 
 
 def enter_namespace(ready, mapped):
-    """Has this process, whose parent says when its users are mapped, go on as root of users, mounts and a loopback of its own."""
+    """Makes this process root in its own namespaces of users, mounts and network, with a loopback; its parent says when its users are mapped."""
     if ctypes.CDLL(None).unshare(CLONE_NEWUSER | CLONE_NEWNS | CLONE_NEWNET) != 0:
         os._exit(1)
     os.write(ready, b"u")
@@ -270,7 +270,7 @@ def enter_namespace(ready, mapped):
 
 
 def map_users(child, count):
-    """Gives the namespace of a process so many users of this one, from the own on."""
+    """Maps the given number of users of this namespace, from the process's own user on, into the namespace of a child."""
     own = (os.getuid(), os.getgid())
     if own[0] != 0:
         with open(f"/proc/{child}/setgroups", "w") as file:
@@ -281,7 +281,7 @@ def map_users(child, count):
 
 
 def in_namespace(count, call, *rest):
-    """What a call answers, a text or None, that is made as root of a namespace of so many users. Left out where that can't be had."""
+    """The answer, a text or None, of a call made as root of a namespace of `count` users; left out if there can't be one."""
     ready, mapped, answer = os.pipe(), os.pipe(), os.pipe()
     child = os.fork()
     if child == 0:
@@ -334,7 +334,7 @@ WAITS = 'echo "$2" > noted; mv noted port; while [ ! -e connected ]; do sleep 0.
 
 
 def top_for_another(folder):
-    """As a user of its own, connects to the port that the worker noted, and says top for each vertex there."""
+    """As a separate user, connects to the port that the worker noted, and says top for each vertex there."""
     os.setgid(STRANGER)
     os.setuid(STRANGER)
     wait_for(os.path.join(folder, "port"))
@@ -345,7 +345,7 @@ def top_for_another(folder):
 
 
 def measured_beside_a_stranger(program):
-    """Why the measures aren't those of TWO, or weren't found by the worker, which can't be read and waits for the stranger."""
+    """Why the measures aren't those of TWO, or weren't found by the worker, whose file can't be read and which waits for the stranger."""
     with tempfile.TemporaryDirectory() as folder:
         os.chmod(folder, 0o777)
         own = copied(program, folder, "parsolve", 0o755)
@@ -372,16 +372,16 @@ def measured_beside_a_stranger(program):
 
 
 def other_users_stay_out(program):
-    """A connection of another user, which is there first, isn't taken, though nobody can tell what the worker holds: its file may be
-    executed and not read. That of the worker, which is of the own user, is."""
+    """A connection of another user, which is there first, isn't taken, though nobody can tell what the worker holds: its file can be
+    executed but not read. The worker's connection, which has the solver's own user, is taken."""
     name = f"measure --workers 1 --apart a file that can't be read ({os.path.basename(program)}), another user connects"
     if os.getuid() != 0:
-        raise case.LeftOut("who isn't root can't connect as another user")
+        raise case.LeftOut("only root can connect as another user")
     return name, in_namespace(USERS, measured_beside_a_stranger, program)
 
 
 def measured_without_tables(program):
-    """Why the measures aren't those of TWO, where there is no /proc; the worker says top."""
+    """Why the measures aren't those of TWO if there is no /proc; the worker says top."""
     if ctypes.CDLL(None).mount(b"none", b"/proc", b"tmpfs", 0, None) != 0:
         raise case.LeftOut
     run = Run(program, "measure", TWO, "top_everywhere")
@@ -390,7 +390,7 @@ def measured_without_tables(program):
 
 
 def takes_nobody_without_tables(program):
-    """Where the tables of the system can't be read no connection is taken, and the game is solved in one piece."""
+    """If the tables of the system can't be read, no connection is taken, and the game is solved in one piece."""
     name = f"measure --workers 1 --apart top_everywhere ({os.path.basename(program)}), without /proc"
     return name, in_namespace(1, measured_without_tables, program)
 
@@ -409,8 +409,8 @@ def starts_none_as_its_owner(program):
 
 
 def starts_programs_for_what_they_keep(program, count, is_wanted):
-    """A path of so many vertices, each of a priority of its own: a worker keeps a map of up to 67,108,864 numbers, vertices times odd
-    priorities, and where it would have to keep more no program is started. The answer is the same."""
+    """A path of `count` vertices, each with a priority of its own: a worker keeps a map of up to 67,108,864 numbers, vertices times odd
+    priorities. If it would have to keep more, no program is started. The answer is the same."""
     text = "".join(f"{v} {v} 1 {min(v + 1, count - 1)};\n" for v in range(count))
     won = "".join(f"{v} 1 {min(v + 1, count - 1)};\n" for v in range(count))
     run = Run(program, "solve", text, "./shell")
@@ -426,7 +426,7 @@ def starts_programs_for_what_they_keep(program, count, is_wanted):
 
 
 def workers_end_before_the_answer_is_taken(program):
-    """Worker programs have ended once the answer is there, also where nobody takes it."""
+    """Worker programs have ended once the answer is there, even if nobody takes it."""
     words = [program, "measure", "--workers", "2", "--apart", program]
     ran = subprocess.Popen(words, stdin=subprocess.PIPE, stdout=subprocess.PIPE, text=True)
     ran.stdin.write("".join(f"{v} {2 - v % 2} 0 {v - v % 2};\n" for v in range(100_000)))
@@ -439,12 +439,12 @@ def workers_end_before_the_answer_is_taken(program):
     ran.stdout.close()
     ran.wait()
     left_behind(10)
-    why = f"{len(left)} programs run on" if left else None if ready and is_waiting else "no answer waited"
+    why = f"{len(left)} programs are still running" if left else None if ready and is_waiting else "no answer waited"
     return f"measure --workers 2 --apart {program}, whose answer isn't taken", why
 
 
 def setup_frame(vertices, bounds):
-    """The set-up of version 2 of so many vertices and bounds, in hexadecimal."""
+    """The set-up of version 2 for these numbers of vertices and bounds, in hexadecimal."""
     each = b"".join(struct.pack(">II", 2 * place + 1, 1) for place in reversed(range(bounds)))
     return pretender.frame(pretender.SETUP, struct.pack(">BII", 2, vertices, bounds) + each).hex()
 
@@ -469,7 +469,7 @@ SERVED = [  # what a solver sends to a worker, what comes back, status, error st
 
 
 def serves(program, sent, reply, status, errors):
-    """The program as a worker writes this reply, and ends so."""
+    """The program, run as a worker, writes this reply, and ends with this status and error stream."""
     with socket.create_server(("127.0.0.1", 0)) as listener:
         words = [program, "worker", "--port", str(listener.getsockname()[1])]
         ran = subprocess.Popen(words, stdin=subprocess.DEVNULL, stdout=subprocess.PIPE, stderr=subprocess.PIPE, text=True)
@@ -499,11 +499,11 @@ def ends_amid_frames(program):
         ran.kill()
         output, told = ran.communicate()
     found = (ran.returncode, output, told)
-    return "worker whose solver goes amid frames", None if found == (0, "", "") else f"{found!r}"
+    return "worker whose solver leaves amid frames", None if found == (0, "", "") else f"{found!r}"
 
 
 def listens_before_it_reads(program, files, wanted):
-    """With so many file descriptors the first fault of a command, whose input isn't there, is this one."""
+    """With this number of file descriptors, the first fault of a command whose input doesn't exist is this one."""
     ran = subprocess.run([program, "solve", "--workers", "2", "--apart", "/proc/self/exe", "/nonexistent/game.pg"],
                          preexec_fn=lambda: resource.setrlimit(resource.RLIMIT_NOFILE, (files, files)), capture_output=True, text=True, timeout=LIMIT)
     found = (ran.returncode, ran.stdout, ran.stderr)
@@ -568,7 +568,7 @@ def why_wrong(call, *rest):
 
 
 def named():
-    """(name, call) of each check; where there is no program each is left out."""
+    """(name, call) of each check; if there is no program, each is left out."""
     if case.PROGRAM is None:
         yield "nothing", lambda: case.LeftOut("no program is of these sources")
         return

@@ -1,5 +1,5 @@
-"""Checks the archive of `./build --archive`: two of the same sources are the same, byte for byte, and what is unpacked into an empty home
-works there, each part of it."""
+"""Checks the archive of `./build --archive`: two archives of the same sources are the same, byte for byte, and each part works if the
+archive is unpacked into an empty home."""
 import pathlib
 import re
 import subprocess
@@ -10,7 +10,7 @@ import embedding
 from case import TOP
 
 EXAMPLES = TOP / "examples"
-# what is typed in the unpacked folder, and what it prints
+# commands to type in the unpacked folder, and their output
 TYPED = [
     ("bin/parsolve solve share/parsolve/examples/mutex.pg", (EXAMPLES / "mutex.solution").read_text()),
     ("bin/parsolve check share/parsolve/examples/mutex.pg share/parsolve/examples/mutex.solution", "WINS\n"),
@@ -43,7 +43,7 @@ def paths(top):
 
 
 def whole(program):
-    """What is made, unpacked and used."""
+    """The archive is made, unpacked and used."""
     if embedding.untried():
         yield "the archive", embedding.untried()
         return

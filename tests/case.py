@@ -1,4 +1,4 @@
-"""What the tests of this folder share: how tests are made of functions, the program that is tried, and how all of them are run."""
+"""What the tests of this folder share: how to make tests of functions, the program to try, and how to run all of them."""
 import inspect
 import multiprocessing
 import os
@@ -10,18 +10,18 @@ import unittest
 from concurrent.futures import ProcessPoolExecutor, as_completed
 
 TOP = pathlib.Path(__file__).resolve().parent.parent
-PROGRAM, BY_RATTLE, IS_PROVING = None, None, False  # which programs are tried, and whether something may be proved: set ahead by ./test
-LeftOut = unittest.SkipTest  # in place of why something fails: why it isn't tried here
+PROGRAM, BY_RATTLE, IS_PROVING = None, None, False  # the programs to try, and whether tests may prove something: ./test sets them first
+LeftOut = unittest.SkipTest  # instead of why something fails: why it isn't tried here
 TESTS = []
 
 
 def why_wrong(why, *wanted):
-    """Why a part fails or None, of that, or of what came out and what has to."""
+    """Why a part fails, or None; it is given that, or the result and the wanted result."""
     return why if not wanted or isinstance(why, LeftOut) else None if why == wanted[0] else f"{why!r}, and not {wanted[0]!r}"
 
 
 def hold(test, parts):
-    """Takes the parts of a test: (name, why it fails or None), or (name, what came out, what has to)."""
+    """Takes the parts of a test: (name, why it fails or None), or (name, result, wanted result)."""
     for name, *found in parts:
         with test.subTest(name):
             fail_for(why_wrong(*found))
@@ -35,7 +35,7 @@ def fail_for(why):
 
 
 def tests(module, *functions):
-    """A class with a test for each function, which yields its parts. One whose parameter is the program is left out where there is none."""
+    """A class with a test for each function, which yields its parts. A test of a function that takes the program is left out if there is none."""
     def test(function):
         def of_program(self):
             if PROGRAM is None:
@@ -52,18 +52,18 @@ def tests_by_name(module, named):
 
 
 def without_notes(errors):
-    """An error stream but for the notes in it."""
+    """An error stream without the notes in it."""
     return b"".join(line for line in errors.splitlines(keepends=True) if not line.startswith(b"parsolve: note: "))
 
 
 def fresh(crate):
-    """The program or library of the crate that is of these sources, or why there is none."""
+    """The program or library of the crate that was built from these sources, or why there is none."""
     ran = subprocess.run(["sh", TOP / "tools/fresh", crate], capture_output=True, text=True)
     return ran.stdout.strip() if ran.returncode == 0 else LeftOut(ran.stderr.strip().removeprefix("parsolve: "))
 
 
 def lacking(*commands):
-    """Why what needs these commands is left out, or None."""
+    """Why a test that needs these commands is left out, or None."""
     names = [it for it in commands if shutil.which(it) is None]
     return LeftOut(f"{' and '.join(names)} isn't installed") if names else None
 
@@ -101,15 +101,15 @@ def flat(suite):
 
 
 def attempt(place):
-    """What came of a test: how many of its parts passed, what failed, what was left out."""
+    """The result of a test: how many of its parts passed, what failed, what was left out."""
     result = Result()
     TESTS[place](result)
     return result.passed, result.faults, result.left_out
 
 
 def run(modules, word=None, at_once=None):
-    """Runs the tests of these modules, so many at once, or as many as there are processors; only those whose name has the word, where one is
-    given. Answers how many parts passed and failed, and of each that was left out why, and its module."""
+    """Runs the tests of these modules, `at_once` at a time, or as many as there are processors; only those whose name has the word, if one
+    is given. Answers how many parts passed and failed, and for each that was left out the reason and its module."""
     loader = unittest.TestLoader()
     loader.testNamePatterns = word and [f"*{word}*"]
     first = len(TESTS)

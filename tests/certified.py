@@ -1,5 +1,5 @@
-"""Sees to it that no game of the benches is lifted to its end: some of each family of bench/families.py, other gadgets in each run, and of
-automata of bench/random_automata.py, are given to the program `certified`, which tells how their least progress measures are found."""
+"""Checks that no game of the benches is lifted to its end: gives some games of each family of bench/families.py, other gadgets in each run,
+and games of automata of bench/random_automata.py to the program `certified`, which reports how their least progress measures are found."""
 import io
 import secrets
 import subprocess
@@ -12,7 +12,7 @@ sys.path.insert(0, str(TOP / "bench"))
 import families  # noqa: E402
 import random_automata  # noqa: E402
 
-# family and sizes, and perhaps a seed; of automata the states, propositions and sets
+# family and sizes, and perhaps a seed; for automata the states, propositions and sets
 CASES = """
 few 1000000 100
 few 1000000 1000
@@ -104,7 +104,7 @@ def game_of(parsolve, family, numbers):
 
 
 def fault(certified, parsolve, case):
-    """Why the game of a case isn't found as it should be, or None."""
+    """Why the measures of a case's game aren't found as they should be, or None."""
     family, *numbers = case.split()
     try:
         game = game_of(parsolve, family, map(int, numbers))
@@ -121,7 +121,7 @@ def untried(cases):
 
 
 def tried(cases):
-    """Why a case fails, by its name, or None; where `certified` isn't built nothing is tried."""
+    """Why a case fails, by its name, or None; if `certified` isn't built, nothing is tried."""
     certified = case.fresh("certified")
     if isinstance(certified, case.LeftOut):
         raise certified

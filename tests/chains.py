@@ -1,7 +1,7 @@
-"""Which definitions a law needs: the chains of docs/map.md, each from its laws down to what they stand on.
+"""Which definitions a law needs: the chains of docs/map.md, each from its laws down to the definitions that they need.
 
-A definition needs those that its text names, in its own module or through `use`. What Rust declares (`declared`) and what the kit has
-(`Rattle.std`) aren't counted.
+A definition needs those that its text names, in its own module or through `use`. Names that Rust declares (`declared`) and those of the
+kit (`Rattle.std`) aren't counted.
 """
 import functools
 import pathlib
@@ -88,5 +88,5 @@ def chains():
 
 
 def missing():
-    """The laws of CHAINS that aren't where they are said to be."""
+    """The laws of CHAINS that aren't in the files that it names."""
     return [law for laws in CHAINS.values() for law in laws if law.split()[1] not in module(law.split()[0]).texts]

@@ -1,4 +1,4 @@
-"""Checks of the built programs that are no rows: random small games and schedules against the definitions, hard games against
+"""Checks of the built programs that aren't rows: random small games and schedules against the definitions, hard games against
 plain lifting and a look at each edge, examples in the help, running out of memory."""
 import os
 import random
@@ -22,7 +22,7 @@ top = str(case.TOP)
 
 
 def random_game(dice, priorities=range(5), most=6):
-    """A game of so many vertices at most, with identifiers that needn't be contiguous."""
+    """A game of at most `most` vertices, with identifiers that needn't be contiguous."""
     identifiers = dice.sample(range(12), dice.randint(1, most))
     return {v: (dice.choice(priorities), dice.randint(0, 1), dice.sample(identifiers, dice.randint(1, min(3, len(identifiers)))))
             for v in identifiers}
@@ -37,8 +37,8 @@ def hard_game(dice, count):
 
 
 def answers_as_defined(program, command, text_of, make_game=random_game, count=150):
-    """The program's answers on random games, by random numbers of workers, are those of the definitions. A game of which there
-    is no such answer is left out, and counts for nothing."""
+    """The program's answers on random games, with random numbers of workers, are those of the definitions. A game without
+    such an answer is left out, and doesn't count."""
     dice = random.Random(1)
     while count > 0:
         game, workers = make_game(dice), dice.choice([[], ["--workers", str(dice.randint(0, 16))]])
@@ -53,7 +53,7 @@ def answers_as_defined(program, command, text_of, make_game=random_game, count=1
 
 
 def climbed_text(command, game, most=20_000):
-    """What a command prints of a game, by so many lifts of each side at most; None where these don't do."""
+    """The output of a command for a game, by at most `most` lifts of each side; None if these aren't enough."""
     try:
         if command == "measure":
             return naive.measures_text(naive.climbed(game, most))
@@ -76,7 +76,7 @@ def workers_change_nothing(program, command, random_text, count=25):
     return None
 
 
-# an automaton of the words on which a recurs, and a word of them that doesn't satisfy F G a
+# an automaton of the words on which a recurs, and one of these words that doesn't satisfy F G a
 RECURRING = b'HOA: v1\nStart: 0\nAP: 1 "a"\nAcceptance: 1 Inf(0)\n--BODY--\nState: 0\n[0] 0 {0}\n[!0] 0\n--END--\n'
 DIFFERING = b"DIFFERS\nthe automaton accepts\nloop\na\n-\n"
 WORKED_OUT = [("measure", "parity 1;\n0 1 0 0;\n1 3 0 0;\n", "0 T;\n1 T;\n"),
@@ -102,7 +102,7 @@ def large_game(dice):
 
 
 def calm_game(dice):
-    """The text of a game of which few vertices may rise, so that workers get these alone; without workers nobody does."""
+    """The text of a game in which few vertices can rise, so that workers get these alone; without workers nobody does."""
     count = dice.randint(40, 200)
     return naive.game_text({v: (dice.choice((0, 0, 2, 4)) if dice.randint(0, 19) else dice.choice((1, 3)), dice.randint(0, 1),
                                 [dice.randrange(count) if dice.randint(0, 3) else (v + 1) % count
@@ -111,7 +111,7 @@ def calm_game(dice):
 
 def near_game(dice):
     """The text of a large game whose edges lead to vertices nearby, mostly to later ones, and of which few have an odd priority.
-    In most such games few vertices may rise, and workers in one process share them; others they solve in one piece."""
+    In most such games few vertices can rise, and workers in one process share them; others they solve in one piece."""
     count = dice.randint(4096, 5000)
     game = {}
     for v in range(count):
@@ -125,7 +125,7 @@ def near_game(dice):
 
 
 def random_event(dice, game, script, made):
-    """An event after so many updates; few of them are refused."""
+    """An event after `made` updates; few such events are refused."""
     workers, v = script[0], dice.choice(sorted(game))
     some, replica = dice.randint(1, max(workers, 1)), dice.randint(0, workers)
     if dice.randrange(80) == 0:
@@ -140,7 +140,7 @@ def random_event(dice, game, script, made):
 
 
 def random_script(dice, game):
-    """Workers, perhaps a cut, and up to fifty events; behind the first that is refused stands one more."""
+    """Workers, perhaps a cut, and up to fifty events; one more follows the first that is refused."""
     workers, events, ran = dice.choice([0, 1, 2, 3, 5, 16]), [], ([], [])
     cut = [dice.randint(1, workers) for _ in game] if workers and dice.randint(0, 1) else None
     for _ in range(dice.randint(0, 50)):
@@ -198,7 +198,7 @@ def renamed_text(dice, game, to):
 
 def names_change_nothing(program, command, count=40):
     """Under other identifiers, with names and with lines in another order the answer is the same; `solve` chooses by the order of
-    identifiers, so there this is kept."""
+    identifiers, so there the order is kept."""
     dice = random.Random(5)
     for _ in range(count):
         game = hard_game(dice, dice.randint(2, 60))
@@ -218,12 +218,12 @@ def names_change_nothing(program, command, count=40):
 
 
 def limited(program, kilobytes, *words):
-    """The words of a command that has so much address space."""
+    """The words of a command with this much address space."""
     return ["sh", "-c", f'ulimit -v {kilobytes}; exec "$0" "$@"', program, *words]
 
 
 def many_priorities_in_a_gigabyte(program, count=65_536, kilobytes=1_000_000):
-    """Games of as many priorities as there can be are solved in a gigabyte of address space: one with successors anywhere, whose
+    """Games with as many priorities as there can be are solved in a gigabyte of address space: one with successors anywhere, whose
     solution is checked, and one cycle, whose greatest priority is odd, so that Odd wins everywhere."""
     dice = random.Random(6)
     anywhere = naive.game_text({v: (v, dice.randint(0, 1), [dice.randrange(count) for _ in range(dice.randint(1, 4))])
@@ -245,7 +245,7 @@ def many_priorities_in_a_gigabyte(program, count=65_536, kilobytes=1_000_000):
 
 
 def replays_as_defined(program, count=300):
-    """What the program prints of random schedules, or why it refuses an event, is what the definitions say."""
+    """The program's output for random schedules, or its reason to refuse an event, is that of the definitions."""
     dice = random.Random(2)
     refused = 0
     for _ in range(count):
@@ -263,7 +263,7 @@ def replays_as_defined(program, count=300):
 
 
 def controllers_as_defined(program, count=120):
-    """What `synth` says of random automata is so, and under its circuits every run is accepted."""
+    """The verdict of `synth` on random automata is right, and under its circuits every run is accepted."""
     dice = random.Random(2)
     for _ in range(count):
         why = controllers.check(program, controllers.random_automaton(dice))
@@ -273,7 +273,7 @@ def controllers_as_defined(program, count=120):
 
 
 def circuits_are_read(program):
-    """An outside tool, where it is installed, reads the circuits of the examples."""
+    """An outside tool, if it is installed, reads the circuits of the examples."""
     if case.lacking("yosys"):
         return case.lacking("yosys")
     with tempfile.TemporaryDirectory() as folder:
@@ -290,7 +290,7 @@ def circuits_are_read(program):
 
 
 def example_in_help(program, words):
-    """The example in the help of a command, run at the top of the repository, is answered, and by what the help says."""
+    """The example in the help of a command, run at the top of the repository, gets an answer: the one in the help, if it shows one."""
     shown = subprocess.run([program, *words, "--help"], capture_output=True, text=True, timeout=60).stdout
     found = re.search(r"^Example: (.*?)(?:^prints (.*?))?\Z", shown, re.M | re.S)
     if found is None:
@@ -312,8 +312,8 @@ def refuser(folder):
 
 
 def survives_want_of_memory(program, args, text, wanted):
-    """The N-th growth is refused, N rising until a run meets no refusal: each earlier run ends with status 1, no output
-    and `out of memory`, or, where it could do without, with the right answer."""
+    """The N-th growth is refused, for rising N until a run meets no refusal: each earlier run ends with status 1, no output
+    and `out of memory`, or, if it could do without, with the right answer."""
     if case.lacking("cc"):
         return case.lacking("cc")
     with tempfile.TemporaryDirectory() as folder:
@@ -331,7 +331,7 @@ def survives_want_of_memory(program, args, text, wanted):
 
 
 def survives_with_what_is_judged(program, args, text, judged):
-    """The same of an answer that another command judges: `judged` gives its words, its input and what it has to print."""
+    """The same for an answer that another command judges: `judged` gives its words, its input and the output that it must print."""
     answer = subprocess.run([program, *args], input=text, capture_output=True, timeout=60).stdout
     words, both, wanted = judged(answer)
     verdict = subprocess.run([program, *words], input=both, capture_output=True, timeout=60).stdout
@@ -352,7 +352,7 @@ def ends_by_name(program, limits, words, wanted):
 
 
 def little_memory_is_told(program):
-    """With little address space, or a short stack, the program says that memory ran out, and isn't ended by it."""
+    """With little address space, or a short stack, the program says that memory ran out, and isn't killed."""
     least = os.path.getsize(program) // 1024 + 800  # under less the system can't map the program's file
     with tempfile.TemporaryDirectory() as folder:
         solution = os.path.join(folder, "solution")
@@ -367,7 +367,7 @@ def little_memory_is_told(program):
 
 
 def files_are_input(program):
-    """Files that the words name are the input, as bytes on standard input are: two its two texts, by one limit."""
+    """Files that the words name are the input, as bytes on standard input are: two files are its two texts, under one limit."""
     game, solution, most = b"parity 1;\n0 1 0 0,1;\n1 2 1 0;", b"0 0 1;\n1 0;\n", 268_435_456
     sound, long = (0, b"WINS\n", b""), (1, b"", b"parsolve: input is longer than 268435456 bytes\n")
     with tempfile.TemporaryDirectory() as folder:
@@ -375,7 +375,7 @@ def files_are_input(program):
             with open(os.path.join(folder, name), "wb") as it:
                 it.write(b" " * blanks + text)
 
-        # a name with lines `--`, and such a line where none may stand, which is a fault of the game
+        # a name with lines `--`, and such a line where none is allowed, which is a fault of the game
         file("named", game[:-1] + b' "\n--\n--\n0 0 0 0;\n--";'), file("lines", game + b"\n--\n")
         apart = (1, b"", b"parsolve: syntax error at byte %d\n" % len(game + b"\n"))
         file("2", game), file("ended", game + b"\n"), file("solution", solution), file("--help", game)
@@ -402,7 +402,7 @@ def files_are_input(program):
 
 
 def example_game(program, name):
-    """The game of an example: the file itself, or what `game` prints of an automaton."""
+    """The game of an example: the file itself, or what `game` prints for an automaton."""
     with open(os.path.join(top, "examples", name), "rb") as file:
         text = file.read()
     if name.endswith(".hoa"):
@@ -411,7 +411,7 @@ def example_game(program, name):
 
 
 def solution_loses(program, game, *words):
-    """Why `check` doesn't call sound what `solve` prints of a game, if so."""
+    """Why `check` doesn't call the solution sound that `solve` prints for a game, or None."""
     solved = subprocess.run([program, "solve", *words], input=game, capture_output=True, timeout=60)
     checked = subprocess.run([program, "check"], input=game + b"--\n" + solved.stdout, capture_output=True, timeout=60)
     is_won = solved.returncode == 0 and checked.stdout == b"WINS\n"
@@ -419,7 +419,7 @@ def solution_loses(program, game, *words):
 
 
 def solutions_win(program):
-    """What `solve` prints of each example `check` calls sound, and what `solve --any` does."""
+    """`check` calls the solutions sound that `solve` and `solve --any` print for each example."""
     for name in ("two.pg", "mutex.pg", "grid.pg", "request-grant.hoa", "owl-arbiter.hoa"):
         for words in ([], ["--any"]):
             why = solution_loses(program, example_game(program, name), *words)
@@ -434,8 +434,8 @@ def winners_of(solution):
 
 
 def any_solutions_win(program, games):
-    """What `solve --any` prints of games, each given as a text and a solution by which the winners are known, has these winners, and
-    `check` calls it sound."""
+    """For games, each given as a text and a solution by which the winners are known, `solve --any` prints a solution with these winners,
+    and `check` calls it sound."""
     for text, known in games:
         ran = subprocess.run([program, "solve", "--any"], input=text, capture_output=True, text=True, timeout=60)
         if winners_of(ran.stdout) != winners_of(known):
@@ -460,7 +460,7 @@ def solved_by_definition(games):
 
 
 def climbed_games(dice, count):
-    """Hard games with their solutions by plain lifting, so far as that ends."""
+    """Hard games with their solutions by plain lifting, if that ends."""
     while count > 0:
         game = hard_game(dice, dice.randint(20, 50))
         known = climbed_text("solve", game)
@@ -470,7 +470,7 @@ def climbed_games(dice, count):
 
 
 def solved_games():
-    """(what games they are, a call that makes them, with solutions) for `solve --any`."""
+    """(the kind of games, a call that makes them, with solutions) for `solve --any`."""
     yield "the games of rows", lambda dice: solved_by_rows()
     yield "random games", lambda dice: solved_by_definition(random_game(dice) for _ in range(100))
     yield "random games of many priorities", lambda dice: solved_by_definition(random_game(dice, range(13), 8) for _ in range(100))
@@ -479,8 +479,8 @@ def solved_games():
 
 
 def hard_games_are_solved(program, size, count=5):
-    """What is printed of hard games of so many vertices: the measures are closed maps, of which one has a list at each vertex, and
-    the solution is sound; so is what `solve --any` prints."""
+    """On hard games of `size` vertices, the measures that are printed are closed maps, of which one has a list at each vertex, and the
+    solution is sound; so is that of `solve --any`."""
     dice = random.Random(4)
     for number in range(count):
         game = hard_game(dice, size)
@@ -500,14 +500,14 @@ def row_lines(first, count, priority):
 
 
 def any_solution_survives(program, text):
-    """What `solve --any` prints of a game is sound, and the same or nothing if memory runs out."""
+    """The solution that `solve --any` prints for a game is sound; if memory runs out, it prints the same or nothing."""
     solved = subprocess.run([program, "solve", "--any"], input=text, capture_output=True, timeout=60).stdout
     return solution_loses(program, text, "--any") or survives_want_of_memory(program, ["solve", "--any"], text, solved)
 
 
 def long_rows_as_worked_out(program, count=1000):
     """Measures climb far along a row of odd priority in the game, along one of even priority in its dual, and along both in
-    both; so each way to find the halves of a solution is gone."""
+    both; so each way to find the halves of a solution is taken."""
     for rows in ([(0, 1)], [(0, 2)], [(0, 1), (count, 2)]):
         parts = [row_lines(first, count, priority) for first, priority in rows]
         game, wanted = ("".join(line for part in parts for line in part[which]) for which in (0, 1))
@@ -520,7 +520,7 @@ def long_rows_as_worked_out(program, count=1000):
 
 
 def rings_and_loops(count=300_000, nested=4001):
-    """(vertices of Odd's, each by its priority and successors, the priority of the bad cycle and its length, or None where Even wins
+    """(Odd's vertices, each by its priority and successors, the priority of the bad cycle and its length, or None if Even wins
     all): rings, whose first vertex has another priority, and loops in loops, where the way back from an even vertex is good."""
     for first, others, bad in ((2, 1, None), (3, 2, (3, count))):
         yield [(others if v else first, [(v + 1) % count]) for v in range(count)], bad
@@ -536,7 +536,7 @@ def cycle_in(verdict):
 
 
 def long_cycles_are_judged(program):
-    """That Even wins is said of long cycles, or a bad one is named whole, and no stack is deep."""
+    """On long cycles the verdict is that Even wins, or names a bad one whole, and no stack gets deep."""
     for vertices, bad in rings_and_loops():
         text = naive.game_text({v: (priority, 1, successors) for v, (priority, successors) in enumerate(vertices)})
         solution = "".join(f"{v} 0;\n" for v in range(len(vertices)))
@@ -552,12 +552,12 @@ def label_of(number, bits):
 
 
 def largest_games():
-    """(automaton, how many vertices and edges its game has, or None where it is too large by one), by the definition of the game."""
+    """(automaton, how many vertices and edges its game has, or None if it is too large by one), by the definition of the game."""
     # dead, the initial arrival, those that the letters lead to, and sixteen answers of each state
     head = 'HOA: v1 States: 65535 Start: 0 AP: 4 "a" "b" "c" "d" Acceptance: 0 t --BODY-- State: 0 '
     for arrivals, size in ((14, (1_048_576, 1_048_801)), (15, None)):
         yield head + " ".join(f"[{label_of(it, 4)}] {it + 1}" for it in range(arrivals)) + " --END--", size
-    # 224 arrivals and 31 states with 32,768 input letters each; at state 2 an answer may lead to two places
+    # 224 arrivals and 31 states with 32,768 input letters each; at state 2 an answer can lead to two places
     head = "HOA: v1 States: 31 Start: 0 AP: 16 " + " ".join(f'"{it}"' for it in "abcdefghijklmnop") + " controllable-AP: 15 Acceptance: 7 " \
         "Inf(6) | (Fin(5) & (Inf(4) | (Fin(3) & (Inf(2) | (Fin(1) & Inf(0)))))) --BODY-- State: 1 "
     edges = " ".join(f"[{label_of(it, 15)}] {it // 8} {f'{{{it % 8 - 1}}}' if it % 8 else ''}" for it in range(1, 224))
@@ -613,7 +613,7 @@ def cases(program):
                    lambda c=command, n=size, count=count: workers_change_nothing(
                        program, c, lambda dice: naive.game_text(hard_game(dice, n)), count))
         yield f"{command} by every number of workers", lambda c=command: workers_change_nothing(program, c, large_game)
-        yield (f"{command} where few vertices may rise, by every number of workers",
+        yield (f"{command} where few vertices can rise, by every number of workers",
                lambda c=command: workers_change_nothing(program, c, calm_game))
         yield (f"{command} where edges lead to vertices nearby, by every number of workers",
                lambda c=command: workers_change_nothing(program, c, near_game, count=5))
@@ -631,7 +631,7 @@ def cases(program):
     yield "solve on long rows", lambda: long_rows_as_worked_out(program)
     yield "files as input", lambda: files_are_input(program)
     yield "little memory", lambda: little_memory_is_told(program)
-    yield "tokens that may not stand where they do", lambda: refused.misplaced_tokens(program)
+    yield "misplaced tokens", lambda: refused.misplaced_tokens(program)
     yield "frames to a worker program", lambda: serving.check(program)
     yield "texts that end too early", lambda: refused.texts_that_end_too_early(program)
     for what, games in (("vertices", limits.games_of_many_vertices), ("edges", limits.games_of_many_edges)):
@@ -641,13 +641,13 @@ def cases(program):
     for words in ([], ["measure"], ["solve"], ["check"], ["replay"], ["automaton"], ["means"], ["game"], ["synth"]):
         yield f"the example in {' '.join([*words, '--help'])}", lambda w=words: example_in_help(program, w)
     yield "circuits of the examples", lambda: circuits_are_read(program)
-    # vertices of Even's in a row; Even wins from the last one, and one in 40 of those before it has priority 1: so a measure is how
-    # many of these are ahead. Two workers share the game of 250 vertices, half of it each; that of 5,000 is solved in one piece
+    # Even's vertices in a row; Even wins from the last one, and one in 40 of those before it has priority 1: so a measure is how
+    # many of these come later. Two workers share the game of 250 vertices, half of it each; that of 5,000 is solved in one piece
     rows = {count: "".join(f"{v} {int(v % 40 == 39 and v < count - 1)} 0 {min(v + 1, count - 1)};\n"
                            for v in range(count)).encode() for count in (250, 5000)}
     counts = {count: b"".join(b"%d %d;\n" % (v, len(range(v + (39 - v) % 40, count - 1, 40))) for v in range(count))
               for count in rows}
-    # the program as LLVM builds it takes its memory by malloc and realloc alone
+    # the program as LLVM builds it gets its memory from malloc and realloc alone
     for what, text, wanted in (("measure", game, b"0 1,1;\n1 1,0;\n2 0,0;\n"), ("solve", three, solution),
                                ("measure of a row by two workers", rows[250], counts[250]),
                                ("measure of a long row", rows[5000], counts[5000]),
@@ -666,7 +666,7 @@ def cases(program):
     yield "running out of memory in synth --counter", lambda: survives_with_what_is_judged(
         program, ["synth", "--counter"], foresight,
         lambda text: [["verify", "--environment"], foresight + b"--\n" + text, b"REFUTES\n"])
-    # a game that takes some 60,000 plain lifts, and of which jumps are made in the game and in its dual
+    # a game that takes some 60,000 plain lifts, and for which jumps are made in the game and in its dual
     hard = hard_game(random.Random(167), 60)
     for command in ("measure", "solve"):
         yield f"running out of memory in {command} of a hard game", lambda c=command: survives_want_of_memory(
@@ -683,7 +683,7 @@ def cases(program):
 
 
 def named():
-    """The same; where there is no program each is left out."""
+    """The same; if there is no program, each is left out."""
     if case.PROGRAM is None:
         return [("nothing", lambda: case.LeftOut("no program is of these sources"))]
     return cases(case.PROGRAM)

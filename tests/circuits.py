@@ -1,7 +1,7 @@
 """Makes printed circuits small with ABC, as docs/commands.md shows, and checks that each small circuit does the same.
 
-ABC compares the two circuits, and a plain reader runs both on random inputs; ABC also has to tell a circuit apart in which an
-output is negated."""
+ABC compares the two circuits, and a plain reader runs both on random inputs; ABC must also notice that
+a circuit with a negated output differs."""
 import pathlib
 import random
 import subprocess
@@ -26,7 +26,7 @@ def printed(program, name):
 
 
 def call(folder, *words):
-    """What a tool prints; a fault of it is raised."""
+    """The output of a tool; a fault of the tool is raised."""
     ran = subprocess.run(words, cwd=folder, stdout=subprocess.PIPE, stderr=subprocess.STDOUT, text=True, timeout=120)
     if ran.returncode != 0:
         raise ValueError(f"{' '.join(words)}: {ran.stdout!r}")
@@ -34,20 +34,20 @@ def call(folder, *words):
 
 
 def turn(folder, form, name, made):
-    """Writes a circuit in another form, by tools/circuit."""
+    """Writes a circuit in another form, with tools/circuit."""
     (folder / made).write_bytes(subprocess.run([sys.executable, TOP / "tools/circuit", form, folder / name], check=True, timeout=120,
                                                stdout=subprocess.PIPE).stdout)
 
 
 def make_small(folder):
-    """From printed.aag makes printed.aig, and small.aig and small.aag, which are small."""
+    """Makes printed.aig of printed.aag, and small.aig and small.aag, which are small."""
     turn(folder, "binary", "printed.aag", "printed.aig")
     call(folder, "berkeley-abc", "-q", "read printed.aig; strash; scorr; dc2; dc2; write_aiger -s small.aig")
     turn(folder, "ascii", "small.aig", "small.aag")
 
 
 def is_equivalent(folder, name, latches):
-    """Whether ABC says that a circuit does what the printed one does, which has so many latches; `dsec` wants one at least."""
+    """Whether ABC says that a circuit does what the printed one does, which has `latches` latches; `dsec` needs at least one."""
     command = "dsec" if latches else "cec"
     return "Networks are equivalent" in call(folder, "berkeley-abc", "-q", f"{command} printed.aig {name}")
 
@@ -77,7 +77,7 @@ def negated(text):
 
 
 def why_wrong(program, name):
-    """Why the small circuit of an example isn't what it has to be, or None."""
+    """Why the small circuit of an example isn't as it should be, or None."""
     with tempfile.TemporaryDirectory() as made:
         folder, text = pathlib.Path(made), printed(program, name)
         (folder / "printed.aag").write_text(text)
@@ -88,12 +88,12 @@ def why_wrong(program, name):
         dice = random.Random(1)
         words = [{it: dice.randint(0, 1) for it in names(first, "i")} for _ in range(STEPS)]
         if run_of(first, words) != run_of(second, words):
-            return "it answers otherwise to some inputs"
+            return "it answers differently to some inputs"
         if len(second.gates) > len(first.gates):
             return f"it has {len(second.gates)} gates, the printed one {len(first.gates)}"
         (folder / "other.aag").write_text(negated(text))
         turn(folder, "binary", "other.aag", "other.aig")
-        return "ABC doesn't tell another circuit apart" if is_equivalent(folder, "other.aig", len(first.latches)) else None
+        return "ABC doesn't notice a different circuit" if is_equivalent(folder, "other.aig", len(first.latches)) else None
 
 
 def small(program):

@@ -1,6 +1,6 @@
 #!/usr/bin/env python3
-"""Whether what `measure` prints of a game, and of its dual, are closed maps, of which exactly one has a list at each vertex. That
-takes one look at each edge, so games may be large; the words are those of naive.py.
+"""Checks that `measure` prints closed maps for a game and for its dual, of which exactly one has a list at each vertex. That
+takes one look at each edge, so games can be large; the words are those of naive.py.
 
     tests/closed.py PROGRAM < GAME      says why not, or nothing
 """
@@ -32,7 +32,7 @@ def fits(bounds, m):
 
 
 def why_open(game, text):
-    """Why printed measures are no closed map of the game within its bounds, if they aren't."""
+    """Why printed measures aren't a closed map of the game within its bounds, or None."""
     listed, bounds = list(read_measures(text)), naive.bounds_of(game)
     if [v for v, _ in listed] != sorted(game):
         return "other vertices"
@@ -47,7 +47,7 @@ def why_open(game, text):
 
 
 def check(program, game):
-    """Why what `measure` prints of a game and of its dual is wrong, if it is."""
+    """Why what `measure` prints for a game and for its dual is wrong, or None."""
     tops = []
     for name, played in (("the game", game), ("the dual", naive.dual(game))):
         ran = subprocess.run([program, "measure"], input=naive.game_text(played).encode(), capture_output=True, timeout=120)

@@ -1,5 +1,5 @@
-"""Checks what tools/pg makes of games that `parsolve` doesn't read: comments, min parity, identifiers over the limit; what it says of each
-change, and what is refused. The winners of min-parity games at random are those of every pair of strategies, by the least priority."""
+"""Checks what tools/pg makes of games that `parsolve` doesn't read: comments, min parity, identifiers over the limit; what it says about
+each change, and what it refuses. The winners of random min-parity games are those of every pair of strategies, by the least priority."""
 import itertools
 import random
 import subprocess
@@ -12,7 +12,7 @@ MARK = "\ufeff"
 AS_IT_STANDS = 'parity 4;\nstart 3;\n3 1 0 3,4,3 "three";\n4 0 1 3;\n'
 MIN = "min parity made max parity: priority P became {} - P".format
 LARGE = "identifiers over 4294967295 renumbered, ".__add__
-# for each game the words, what is made of it, and what is said of the changes
+# for each game: the words, the result, and the text about the changes
 MADE = [
     (AS_IT_STANDS, [], AS_IT_STANDS, None),
     ("0 0 0 0;", [], "parity 0;\n0 0 0 0;\n", None),
@@ -61,12 +61,12 @@ def converted(text, *words):
 
 
 def games():
-    """(what is checked, what came out, what has to) for each game."""
+    """(what is checked, result, wanted result) for each game."""
     for text, words, made, said in MADE:
         told = "" if said is None else f"pg: {said}\n" if made is None else f"pg: note: standard input: {said}\n"
         yield f"{text[:60]} {words}", converted(text, *words), (int(made is None), made or "", told)
         if made is not None:
-            yield f"{text[:60]}: what was made, made anew", converted(made), (0, made, "")
+            yield f"{text[:60]}: the result, rewritten again", converted(made), (0, made, "")
     yield "the words", converted("", "--max")[0], 2
     yield "no such file", converted("", "nothing"), (1, "", "pg: nothing: No such file or directory\n")
     path = str(TOP / "examples/sender.pg")
@@ -80,7 +80,7 @@ def random_game(dice):
 
 
 def won_by_even(game, first):
-    """Whether Even wins from a vertex where the least priority that recurs decides: by a strategy that wins against each one of Odd's."""
+    """Whether Even wins from a vertex if the least priority that recurs decides: by a strategy that wins against each one of Odd's."""
     def recurring(choice):
         at, met = first, []
         while at not in met:
@@ -96,7 +96,7 @@ def won_by_even(game, first):
 
 
 def winners(program):
-    """The same for the winners of min-parity games at random, as a program finds them in what was made."""
+    """The same for the winners of random min-parity games, as a program finds them in the rewritten games."""
     dice = random.Random(1)
     for number in range(30):
         game = random_game(dice)

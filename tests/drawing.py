@@ -1,10 +1,10 @@
 #!/usr/bin/env python3
 """Checks what tools/draw writes: texts for Graphviz, pictures, refusals, and tables of schedules; and the places that tools/where shows.
 
-The texts for Graphviz of docs/pictures/ have to be those that the tool writes; the pictures beside them depend on the version
+The texts for Graphviz of docs/pictures/ must be those that the tool writes; the pictures beside them depend on the version
 of `dot`, and aren't compared.
 
-    tests/drawing.py    makes docs/pictures/ anew, for which `dot` has to be installed
+    tests/drawing.py    makes docs/pictures/ again; `dot` must be installed
 """
 import pathlib
 import subprocess
@@ -18,7 +18,7 @@ PICTURES = {"two": ["examples/two.pg"], "sender": ["examples/sender.pg", "exampl
             "request-grant": ["examples/request-grant.hoa"], "traffic-light": ["examples/traffic-light.hoa"],
             "priorities": ["examples/priorities.hoa"],
             "foresight": ["--automaton", "examples/foresight.hoa", "examples/foresight.pg", "examples/foresight.solution"]}
-# pictures of texts that stand in no file: a wrong solution and what `check` says of it
+# pictures of texts that are in no file: a wrong solution, and the verdict of `check` on it
 TEXTS = {"sender-wrong": {"game": (TOP / "examples/sender.pg").read_bytes(),
                           "wrong": (TOP / "examples/sender.solution").read_bytes().replace(b"\n0 0 2;", b"\n0 0 1;"),
                           "verdict": b"CYCLE 1 3,0,1\n"}}
@@ -70,11 +70,11 @@ AUTOMATON_GRAPH = """digraph automaton {
     1 -> 1 [label="a\\n!a&\\"b \\"c\\"\\" {1}"];
 }
 """
-# a label of several lines: that neither of two, or both, or just the third of these hold
+# a label of several lines: neither or both of two propositions hold
 LONG_NAMES = ["the_first_of_the_propositions", "the_second_of_the_propositions"]
 LONG = ('HOA: v1 Start: 0 AP: 2 "%s" "%s" Acceptance: 1 Inf(0) --BODY-- State: 0 [!0&!1|0&1] 0 {0} --END--' % (*LONG_NAMES,)).encode()
 LONG_LABEL = "{0}&amp;{1}\\n| !{0}&!{1} {{0}}".format(*LONG_NAMES)
-# verdicts on THREE and SOLUTION: what is said of them, and the lines of their edges
+# verdicts on THREE and SOLUTION: the text about them, and the lines of their edges
 VERDICTS = {
     b"WINS\n": ("WINS: each winner wins by the heavy edges", []),
     b"LEAVES 2 0\n": ("LEAVES: the red edge goes to a vertex of the other winner", ['2 -> 0 [color="#c00000", style=dashed]']),
@@ -83,7 +83,7 @@ VERDICTS = {
                          ['0 -> 1 [penwidth=3, color="#c00000", style=dashed]', '1 -> 2 [color="#c00000", style=dashed]',
                           '2 -> 0 [color="#c00000", style=dashed]']),
 }
-# the game of examples/request-grant.hoa, and what its vertices and the edges of Even are called
+# the game of examples/request-grant.hoa, and the words for its vertices and for Even's edges
 GAME_OF_GRANTS = b"""parity 10;
 0 1 1 0 "dead";
 1 1 1 4,5 "s0";
@@ -100,7 +100,7 @@ WORDS = ["0: 1\\nthe run has ended", "1: 1\\nstate 0", "2: 2\\nstate 0 {0}", "3:
          "5: 0\\nstate 0: request", "7: 2\\nstate 1 {0}", "8: 3\\nstate 1 {1}", "9: 0\\nstate 1: !request", "10: 0\\nstate 1: request"]
 LETTERS = ['4 -> 2 [label="t"]', '5 -> 7 [label="t"]', '9 -> 2 [label="grant"]', '9 -> 3 [label="!grant"]', '10 -> 7 [label="grant"]',
            '10 -> 8 [label="!grant"]']
-# parts of THREE: the words, with a solution, and what has to be drawn: where it begins, the dashed vertices, the edges, and what is said
+# parts of THREE: the words, with a solution, and what must be drawn: where it begins, the dashed vertices, the edges, and the text
 SELF = {0: '0 -> 0 [color="#b8b8b8"]', 1: "1 -> 1 [penwidth=3]", 2: "2 -> 2 [penwidth=3]"}
 ALL = [SELF[0], "0 -> 1 [penwidth=3]", SELF[1], '1 -> 2 [color="#b8b8b8"]', '2 -> 0 [color="#b8b8b8"]', SELF[2]]
 PARTS = [
@@ -113,7 +113,7 @@ PARTS = [
      "2 of 3 vertices: those that are reached from 2"),
     (b"", ["--all", "--from", "2"], "start -> 2", [], ALL, ""),
 ]
-# the game of GAME_OF_GRANTS, won by the controller everywhere but where the run has ended
+# the game of GAME_OF_GRANTS, won by the controller except where the run has ended
 SOLUTION_OF_GRANTS = b"0 1 0;1 0;2 0;3 0;4 0 2;5 0 7;7 0;8 0;9 0 2;10 0 7;"
 STRATEGY_OF_GRANTS = """the controller wins
 state 0: the controller answers
@@ -151,7 +151,7 @@ MANY_STATES = "too many for a picture: with --automaton a part of its game can b
 
 
 def chords(count):
-    """A ring of 200 vertices, of which the first have an edge across it too."""
+    """A ring of 200 vertices, the first `count` of which also have an edge across it."""
     return b"".join(b"%d 0 0 %d%s;" % (it, (it + 1) % 200, b",%d" % ((7 * it + 90) % 200) if it < count else b"") for it in range(200))
 
 
@@ -201,7 +201,7 @@ FAULTS = {SCRIPT + b"lift 1 1;": "script: event 5: vertex 1 is not of worker 1",
           b"workers 1;lift 1;": "script: syntax error at byte 16"}
 
 
-# (text, byte) and what tools/where has to show: the line, the column, and the line with a mark
+# (text, byte) and what tools/where must show: the line, the column, and the line with a mark
 SHOWN = {
     (b"0 0 1;\n1 0 0 0;\n", 13): "line 2, column 7\n1 0 0 0;\n      ^\n",
     (b"0 0 1;\n1 0 0 0;\n", 6): "line 1, column 7\n0 0 1;\n      ^\n",
@@ -230,7 +230,7 @@ def pictures_kept():
 
 
 def graphs():
-    """(what is checked, what came out, what has to) for each text for Graphviz."""
+    """(what is checked, result, wanted result) for each text for Graphviz."""
     yield "a game", drawn(["--dot"], {"game": GAME}), (0, GAME_GRAPH, "")
     yield "a solution", drawn(["--dot"], {"game": THREE, "solution": SOLUTION}), (0, SOLVED_GRAPH, "")
     yield "an automaton", drawn(["--dot"], {"automaton": AUTOMATON}), (0, AUTOMATON_GRAPH, "")
@@ -244,7 +244,7 @@ def graphs():
 
 
 def lines_with(text, *words):
-    """The lines of a text that have all the words, without what ends them."""
+    """The lines of a text that have all the words, without blanks at their ends and the semicolon."""
     return [line.strip().rstrip(";") for line in text.splitlines() if all(word in line for word in words)]
 
 
@@ -295,7 +295,7 @@ def places():
 
     for (text, byte), wanted in SHOWN.items():
         yield f"byte {byte} of {text}", shown(text, "-", byte), (0, wanted, "")
-    yield "a byte behind the end", shown(b"abc", "-", 4), (1, "", "where: standard input: it has 3 bytes, and no byte 4\n")
+    yield "a byte after the end", shown(b"abc", "-", 4), (1, "", "where: standard input: it has 3 bytes, and no byte 4\n")
     yield "no file", shown(b"", "nothing", 4), (1, "", "where: nothing: No such file or directory\n")
     for words in ([], ["-"], ["-", "x"], ["-", "-1"]):
         yield f"the words {words}", shown(b"", *words)[:2], (2, "")
@@ -312,7 +312,7 @@ def refusals():
 
 
 def pictures():
-    """The same for a picture, where `dot` is installed."""
+    """The same for a picture, if `dot` is installed."""
     if case.lacking("dot"):
         yield "a picture", case.lacking("dot")
         return
@@ -323,7 +323,7 @@ def pictures():
 
 
 def tables(program):
-    """The same for tables, which the program is asked for."""
+    """The same for tables, for which the tool runs the program."""
     words = ["--replay", "--program", program]
     yield "a table", drawn(words, {"game": TWO, "script": SCRIPT}), (0, TABLE, "")
     for script, told in FAULTS.items():

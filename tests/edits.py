@@ -1,16 +1,16 @@
 #!/usr/bin/env python3
-"""Tries the wrong bodies of edits/: the prover has to refuse each, since its function doesn't meet its contract.
+"""Tries the wrong bodies of edits/: the prover must refuse each, since its function doesn't meet its contract.
 
-An edit, edits/CRATE/NAME.edit, has lines `file: PATH` in the crate, `old: TEXT`, which stands once in that file, and `new: TEXT`. Edits
+An edit, edits/CRATE/NAME.edit, has lines `file: PATH` in the crate, `old: TEXT`, which occurs once in that file, and `new: TEXT`. Edits
 of different functions of a crate are made in one copy of it. There the prover looks at the functions that were edited and at no other:
-each other function that has a proof gets a hole in its place, so that it counts by its contract. An edit is judged by the lines
-of its own function alone, or of one of them where it changes several:
+each other function that has a proof gets a hole in place of it, so that it counts by its contract. An edit is judged by the lines
+about its own function alone, or about one of them if it changes several:
 - refused: a goal of the function isn't proved, or an answer of its proof doesn't fit its goal any more;
-- it waits for another copy, where only functions that it calls are refused there;
-- anything else is a failure: that the function is proved, that its proof only misses names which the edit took away, that the prover
-  comes to a limit, or that the edit can't be made, compiled or read.
-The libraries that the crate stands on have to be there, as ./build or the gate left them. `./test --proofs` tries one in four of each
-crate's, which goes round with the number of commits, and all of a crate that the last landing touched; with --all it tries all.
+- it waits for another copy if only functions that it calls are refused there;
+- anything else is a failure: the function is proved, its proof only misses names that the edit took away, the prover reaches a limit, or
+  the edit can't be made, compiled or read.
+The libraries that the crate uses must be there, as ./build or the gate left them. `./test --proofs` tries one in four of each crate's
+edits, other ones with each commit, and all of a crate that the last landing touched; with --all it tries all.
 """
 import argparse
 import os
@@ -29,8 +29,8 @@ import scripts
 from case import TOP
 
 EDITS = TOP / "edits"
-PARTS = 4  # one of so many parts of a crate's edits is tried with each commit
-ROOM = 3_000_000_000  # bytes of memory that a check may take
+PARTS = 4  # each commit tries one of this many parts of a crate's edits
+ROOM = 3_000_000_000  # bytes of memory that a check can take
 FUNCTION = re.compile(r"(    )?(?:pub(?:\(\w+\))? )?(?:const )?(?:extern \"C\" )?fn (\w+)")
 OPEN = re.compile(r"note: (src/\S+?):(\d+):\d+: it is not proved that")
 BROKEN = re.compile(r"(?:\./)?proofs/(\S+?)\.antt:\d+:\d+: error: (?:`([^`]*)`: )?(.*)")
@@ -51,7 +51,7 @@ class BadEdit(Exception):
 # ---- what an edit is
 
 class Edit:
-    """A wrong body: the texts that it changes, and the functions in which they stand."""
+    """A wrong body: the texts that it changes, and the functions that they are in."""
 
     def __init__(self, path, folder):
         self.name, self.pairs, functions, file, old = f"{path.parent.name}/{path.stem}", [], [], None, None
@@ -77,9 +77,16 @@ class Edit:
 
 
 def name_of(path):
-    """The last name of a path, and that of its first argument: (`From`, `AllocError`) of `core::From<AllocError>`."""
-    found = re.match(r"\W*([\w:]+)(?:<([\w:]+))?", path)
-    return [(it or "").rpartition("::")[2] for it in found.groups()]
+    """The last name of a path, and that of its first argument: (`From`, `AllocError`) of `core::From<AllocError>`. A tuple has the names
+    of its parts: (`From`, `Tuple2U32Fault`) of `From<(u32, Fault)>`."""
+    found = re.match(r"\W*([\w:]+)(?:<([\w:]+|\([^()]*\)))?", path)
+    return [tuple_name(it) if it.startswith("(") else it.rpartition("::")[2] for it in found.groups("")]
+
+
+def tuple_name(kind):
+    """What the prover calls a tuple: `Tuple2U32Fault` for `(u32, Fault)`."""
+    parts = [it.strip().rpartition("::")[2] for it in kind.strip("()").split(",")]
+    return f"Tuple{len(parts)}" + "".join(it[0].upper() + it[1:] for it in parts)
 
 
 def impl_name(head):
@@ -109,8 +116,8 @@ def home_of(folder, kind, file):
 
 
 def function_at(folder, file, line):
-    """The function in which a line of a file stands, by the name that the prover gives it, or None. An attribute stands in the function
-    below it: there the prover says what isn't proved where that returns."""
+    """The function that a line of a file is in, by the name that the prover gives it, or None. An attribute belongs to the function
+    below it: the prover names the attribute's line if something isn't proved where the function returns."""
     lines = (folder / file).read_text().split("\n")
     while lines[line].lstrip().startswith("#["):
         line += 1
@@ -145,7 +152,7 @@ class Copy:
         self.dig()
 
     def dig(self):
-        """Puts a hole in place of the proof of each function that isn't edited. What functions that call one another share stays."""
+        """Puts a hole in place of the proof of each function that isn't edited. A proof that functions which call one another share stays."""
         proofs = self.room / "proofs"
         for folder in {it.parent for it in proofs.rglob("*.antt") if it.stem in ("Answers", "Invariants")}:
             path = folder.relative_to(proofs).parts
@@ -155,10 +162,10 @@ class Copy:
                 (folder / "Proof.antt").write_text(HOLE.format(crate=self.crate.name, path=".".join(path), name=path[-1]))
 
     def check(self, rtlib):
-        """What the prover says of the edited functions."""
+        """What the prover says about the edited functions."""
         only = [word for it in sorted(self.functions) for word in ("--only", it)]
         words = self.crate.words(["--jobs", "1", "--allow-holes", *only], keeps=False)
-        for _ in range(2):  # one that is killed, most likely for memory, is started once more
+        for _ in range(2):  # a prover that is killed, most likely for its memory, is started once more
             ran = subprocess.run([*rtlib.guarded(), rtlib.RATTLE, "check", *words], cwd=self.room, stdin=subprocess.DEVNULL,
                                  stdout=subprocess.PIPE, stderr=subprocess.STDOUT, errors="replace")
             if ran.returncode != -signal.SIGKILL:
@@ -166,7 +173,7 @@ class Copy:
         return ran.stdout
 
     def judged(self, said):
-        """What came of each edit."""
+        """The result of each edit."""
         return {edit: self.of_edit(edit, said) for edit in self.edits}
 
     def of_edit(self, edit, said):
@@ -174,7 +181,7 @@ class Copy:
         return next((it for it in (REFUSED, WAITS) if it in found), found[0])
 
     def of_function(self, function, said):
-        """What came of the edit of a function: refused, waits, or why it shows nothing."""
+        """The result of the edit of a function: refused, waits, or why it shows nothing."""
         verdict = re.search(rf"^fn {self.crate.name}::{re.escape(function)}: (.*)", said, re.M)
         if verdict is None:
             errors = [it for it in said.splitlines() if re.search(r"error[\[:]", it)]
@@ -193,7 +200,7 @@ class Copy:
         return any(function_at(self.room, file, int(line) - 1) == function for file, line in OPEN.findall(said))
 
     def broken(self, function, verdict, said):
-        """What is wrong in the proof of the function, by the prover's errors: those of its own folder, and those of what it stands on that is
+        """What is wrong in the proof of the function, by the prover's errors: those in its own folder, and those in what it uses that is
         no other function's."""
         own, found = function.replace("::", "/") + "/", []
         for file, name, error in BROKEN.findall(said):
@@ -218,8 +225,8 @@ def share_out(edits):
 
 
 def tried(crate, edits, rtlib):
-    """What came of each edit: all are made in one copy, those that wait there once more in another, and each half by itself where the prover
-    says nothing of one, since it reads no function of a copy that doesn't compile."""
+    """The result of each edit: all are made in one copy, and those that wait there once more in another. If the prover says nothing about
+    one, each half is tried by itself, since the prover reads no function of a copy that doesn't compile."""
     with tempfile.TemporaryDirectory(prefix="edits-") as room:
         copy = Copy(crate, edits, room)
         found = copy.judged(copy.check(rtlib))
@@ -243,33 +250,33 @@ def read(crate, faults):
 
 
 def git(*words):
-    """What git says, or nothing, where this is no repository or a shallow one."""
+    """The output of git, or nothing if this is no repository or a shallow one."""
     ran = subprocess.run(["git", *words], cwd=TOP, capture_output=True, text=True)
     return ran.stdout.split() if ran.returncode == 0 else []
 
 
 def landed():
-    """The crates that the last landing touched: each ends with a release, so they differ from what the release before the last was made of."""
+    """The crates that the last landing touched: each ends with a release, so they differ from the sources of the release before the last."""
     releases = git("log", "-2", "--format=%H", "--", "release/ABOUT")
     changed = git("diff", "--name-only", releases[-1], "--", "crates", "edits") if len(releases) == 2 else []
     return {path.split("/")[1] for path in changed}
 
 
 def part():
-    """(how many, which) of the edits of a crate of which not all are tried."""
+    """(how many parts, which part) of a crate's edits if not all are tried."""
     return PARTS, int((git("rev-list", "--count", "HEAD") or ["0"])[0]) % PARTS
 
 
 def chosen(edits, is_whole):
-    """The edits that are tried of a crate's."""
+    """Those of a crate's edits that are tried."""
     count, first = part()
     return edits if is_whole else edits[first::count]
 
 
 def run(names=(), is_whole=False):
-    """Tries all edits of these crates; where none is named those of every crate, all of them or a part. Answers how many passed and failed."""
+    """Tries all edits of these crates; if none is named, those of every crate, all of them or a part. Answers how many passed and failed."""
     rtlib, start, spent = scripts.script("build").toolchain(is_still=True), time.monotonic(), processor_seconds()
-    rtlib.guarded()  # what ends the prover with this process; it can't start once there are threads
+    rtlib.guarded()  # this ends the prover when this process ends; it can't start once there are threads
     whole = set(names) or (set(os.listdir(EDITS)) if is_whole else landed())
     wanted = set(names or os.listdir(EDITS))
     if wanted - whole:
@@ -303,7 +310,7 @@ def processor_seconds():
 
 def options():
     words = argparse.ArgumentParser(description=__doc__, formatter_class=argparse.RawDescriptionHelpFormatter)
-    words.add_argument("crates", metavar="CRATE", nargs="*", help="tries all edits of this crate; where none is named, all of every crate")
+    words.add_argument("crates", metavar="CRATE", nargs="*", help="try all edits of this crate; if none is named, all of every crate")
     return words.parse_args()
 
 

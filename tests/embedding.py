@@ -1,4 +1,4 @@
-"""Tries the library for C, C++ and Python: its header is that of the sources, the sessions of docs/library.md print what the page says,
+"""Tries the library for C, C++ and Python: its header matches the sources, the sessions of docs/library.md print what the page says,
 its answers are those of the program, and tests/embedding.c finds nothing wrong, with and without the address sanitizer."""
 import array
 import ctypes
@@ -18,7 +18,7 @@ from case import TOP
 
 SOURCES, HEADER, MODULE = TOP / "crates/parsolve_c/src", TOP / "bindings/parsolve.h", TOP / "bindings/parsolve.py"
 WARNINGS = ["-Wall", "-Wextra", "-Werror"]
-# what a type of the sources is in C, an argument after the other
+# each type of the sources in C, argument by argument
 IN_C = {"u32": ["uint32_t"], "usize": ["size_t"], "Global": [], "&Arrays": ["const struct parsolve_game *"],
         "&mut ParsolveFound": ["struct parsolve_found *"], "&mut u32": ["uint32_t *"], "&mut usize": ["size_t *"],
         "&[u8]": ["const uint8_t *", "size_t"], "&[u32]": ["const uint32_t *", "size_t"],
@@ -46,7 +46,7 @@ def compared(what, ours, theirs):
 
 
 def in_c(parameters, suffix):
-    """The parameters of a list of the sources as C has them: (type, name), a slice with the length behind it."""
+    """The parameters of a list of the sources as C has them: (type, name), a slice with the length after it."""
     found = []
     for name, kind in parameters:
         types = IN_C[kind]
@@ -92,7 +92,7 @@ def header_checks():
 
 
 def module_checks(codes):
-    """The same of the numbers of the Python module."""
+    """The same for the numbers of the Python module."""
     module = MODULE.read_text()
     commands = re.findall(r'"([\w -]+)"', re.search(r"^COMMANDS = \((.*?)\)", module, re.M | re.S)[1])
     yield compared("COMMANDS", {f"PARSOLVE_COMMAND_{it.upper().replace(' --', '_')}": str(at) for at, it in enumerate(commands)},
@@ -130,7 +130,8 @@ def printed(words, **more):
 
 
 def names_checks(folder):
-    """The exports are the only names that other libraries can meet, and malloc's three the only ones that aren't of memory alone."""
+    """The exports are the only names that the library defines for others, and it uses only malloc's three and those that copy, set or
+    compare memory."""
     if case.lacking("nm"):
         yield "names", case.lacking("nm")
         return
@@ -146,7 +147,7 @@ def names_checks(folder):
 
 def blocks():
     """The programs of docs/library.md in C, C++ and Python, by the names of their files, and its sessions: the commands, line by line,
-    and what they print in all."""
+    and their whole output."""
     text = (TOP / "docs/library.md").read_text().partition("## From C and Python")[2].partition("\n## ")[0]
     programs = {f"example.{end}": re.search(rf"^```{language}\n(.*?)^```$", text, re.M | re.S)[1]
                 for language, end in (("c", "c"), ("cpp", "cpp"), ("python", "py"))}
@@ -155,7 +156,7 @@ def blocks():
 
 
 def sessions_check(folder, work):
-    """The sessions of the page, as they are written, in one shell; the name of the folder has no blank then."""
+    """The sessions of the page, as they are written, in one shell; a link gives the folder a name without a blank."""
     _, commands, wanted = blocks()
     linked = work / "laid"
     linked.symlink_to(folder)
@@ -164,7 +165,7 @@ def sessions_check(folder, work):
 
 
 def example_checks(folder, work):
-    """The sessions and the programs of the page, where there are compilers, and the examples of the module."""
+    """The sessions and the programs of the page, if there are compilers, and the examples of the module."""
     for name, text in blocks()[0].items():
         (work / name).write_text(text)
     if case.lacking("pkg-config", "cc", "c++"):
@@ -182,7 +183,7 @@ def example_checks(folder, work):
 
 
 def compiled_checks(folder, work):
-    """The program of the page in C is one in C++ too, from the archive and from the shared object."""
+    """The page's program in C also compiles as C++, with the archive and with the shared object."""
     wanted, flags = printed([work / "example"]), ["-I", folder / "include", "-L", folder / "lib"]
     for language, compiler in (("c", ["cc", "-std=c99"]), ("c++", ["c++", "-std=c++11"])):
         for how, more in (("archive", ["-l:libparsolve.a"]), ("shared", ["-lparsolve", f"-Wl,-rpath,{folder}/lib"])):
@@ -194,7 +195,7 @@ def compiled_checks(folder, work):
 
 
 def installed(folder, work):
-    """The package as pip installs it, where pip is there; nothing is fetched."""
+    """The package as pip installs it, if there is pip; nothing is fetched."""
     if not importlib.util.find_spec("pip"):
         yield "the package, installed", case.LeftOut("pip isn't installed")
         return
@@ -253,13 +254,13 @@ def verdict_text(game, verdict):
 
 
 def says(program, command, text):
-    """(status, what a command prints, the error stream but for notes, which the library doesn't tell)."""
+    """(status, output, error stream without notes, which the library doesn't report) of a command."""
     done = subprocess.run([program, *command.split()], input=text, capture_output=True, timeout=600)
     return done.returncode, done.stdout, case.without_notes(done.stderr)
 
 
 def answered(parsolve, command, text):
-    """The same of the library."""
+    """The same for the library."""
     try:
         return 0, parsolve.answer(command, text), b""
     except parsolve.ParsolveError as why:
@@ -278,7 +279,7 @@ def games(dice):
 
 
 def spoiled(dice, game, winners, strategy):
-    """The solution, perhaps with another choice or another winner at a vertex, that chooses where it owns the vertex."""
+    """The solution, perhaps with another choice at a vertex, or another winner, who chooses if it owns the vertex."""
     winners, strategy, v = list(winners), list(strategy), dice.choice(sorted(game))
     if dice.randint(0, 3):
         winners[v] ^= dice.randint(0, 1)
@@ -327,7 +328,7 @@ def same_answers(parsolve, program):
 
 
 class Liar(array.array):
-    """An array that tells an address at which it isn't, and a length that it hasn't."""
+    """An array that reports a wrong address and a wrong length."""
 
     @property
     def __array_interface__(self):
@@ -338,7 +339,7 @@ class Liar(array.array):
 
 
 class LongBytes(bytes):
-    """A text that tells a length that it hasn't."""
+    """A text that reports a wrong length."""
 
     def __len__(self):
         return 1 << 40
@@ -350,7 +351,7 @@ def unaligned(kind, numbers):
 
 
 def kinds_of_arrays():
-    """(kind, whether it is taken as it is, how an array of it is made of numbers of 32 or 8 bits)."""
+    """(kind, whether it is taken as it is, how to make an array of it from numbers of 32 or 8 bits)."""
     yield "array.array", True, array.array
     yield "an array that lies", True, Liar
     yield "a view that can't be written", True, lambda kind, numbers: memoryview(array.array(kind, numbers)).toreadonly()
@@ -393,7 +394,7 @@ def array_checks(parsolve):
 
 
 def refused(parsolve):
-    """(exception, text, a call that has to raise it)."""
+    """(exception, text, a call that must raise it)."""
     game, wide = parsolve.Game([2, 1], [1, 0], [[0, 1], [0, 1]]), "isn't from 0 to 4294967295"
     yield ValueError, f"priorities[1] {wide}", lambda: parsolve.Game([0, -1], [0, 0], [[0], [0]])
     yield ValueError, "owners[0] isn't from 0 to 255", lambda: parsolve.Game([0], [256], [[0]])
@@ -448,7 +449,7 @@ def imported(folder):
 # ---- all of it
 
 def untried():
-    """Why the library isn't tried, or None: it may be neither there nor proved now, or what links it isn't installed."""
+    """Why the library isn't tried, or None: there is none and none may be proved now, or the tools that link it aren't installed."""
     found = case.fresh("parsolve_c")
     if isinstance(found, case.LeftOut):
         return None if case.IS_PROVING else found
@@ -456,7 +457,7 @@ def untried():
 
 
 def library(program):
-    """The library that is of these sources, built or released; it is built first where something may be proved."""
+    """The library of these sources, built or released; it is built first if tests may prove something."""
     if untried():
         yield "the library", untried()
         return

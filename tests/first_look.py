@@ -1,5 +1,5 @@
 """Runs the command of the README that compiles the program with nothing proved, in a copy of the crates in which nothing was built,
-and sees that it prints the solution of the example."""
+and checks that it prints the solution of the example."""
 import pathlib
 import re
 import shutil
@@ -19,7 +19,7 @@ def command():
 
 
 def why_wrong():
-    """Why the command doesn't do what it has to, or None."""
+    """Why the command doesn't do what it must, or None."""
     with tempfile.TemporaryDirectory() as made:
         folder = pathlib.Path(made)
         library.copy_crates(folder, ["parsolve"])

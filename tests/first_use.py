@@ -77,13 +77,13 @@ grep -q wrong ../*/src/lib.rt && exit 1
 printf '#!/bin/sh\\necho "$@"\\ncat\\n' > out/parsolve
 chmod +x out/parsolve
 '''
-# a stand-in for what links: it writes the file behind -o, or the second word
+# a stand-in for the linkers: it writes the file after -o, or the second word
 LINKER = '''#!/bin/sh
 file=$2
 while [ $# -gt 0 ]; do [ "$1" = -o ] && file=$2; shift; done
 case $file in -*) ;; *) [ -e "$file" ] || echo linked > "$file" ;; esac
 '''
-# a module of tests, which says what it is given
+# a module of tests, which prints what it is given
 PART = '''
 import sys
 import unittest
@@ -152,7 +152,7 @@ class Copy:
         return status, errors, asked
 
     def release(self):
-        """Lays a program, which says that it is released, and a library into release/, as what is built of these sources."""
+        """Puts a program, which says that it is released, and a library into release/, as if built from these sources."""
         self.build()
         program, library = self.top / "release/bin/parsolve", self.top / "release/lib/libparsolve.so"
         self.write(program, (self.top / "crates/parsolve/out/parsolve").read_text().replace("echo", "echo released"))
@@ -179,12 +179,12 @@ HOW = "parsolve: ./build proves and builds it\n"
 
 
 def refused(copy, why=STALE):
-    """Whether a use says why there is no program and how it is built, runs none, and proves nothing."""
+    """Whether a use says why there is no program and how to build it, runs none, and proves nothing."""
     return copy.use() == (1, "", why + HOW, [])
 
 
 def first_build(copy):
-    """Nothing is proved unasked. ./build proves the libraries, those beside one another at once, and tells the kit; then the program runs."""
+    """Nothing is proved unasked. ./build proves the libraries, independent ones at once, and names the kit; then the program runs."""
     was_refused = refused(copy, UNBUILT)
     status, errors, asked = copy.build()
     return was_refused and status == 0 and asked[:2] == ["start low", "end low"] and {*asked[2:4]} == {"start left", "start right"} \
@@ -192,7 +192,7 @@ def first_build(copy):
 
 
 def later_uses(copy):
-    """The program runs where nothing changed, and after a change of a crate of tests."""
+    """The program runs if nothing changed, and after a change of a crate of tests."""
     copy.build()
     ran = copy.use()
     copy.write(copy.source("low_tests"), "changed")
@@ -200,14 +200,14 @@ def later_uses(copy):
 
 
 def changes(copy):
-    """After a change of a library the program is refused; ./build proves it and what stands on it, and nothing else."""
+    """After a change of a library the program is refused; ./build proves it and the crates that use it, and nothing else."""
     copy.build()
     copy.write(copy.source("left"), "changed")
     return refused(copy) and copy.build()[2] == ["start left", "end left", "run"] and copy.use() == RIGHT
 
 
 def set_back(copy):
-    """A source that changed is found, though its size and its time are as they were, and though the program is of a later time."""
+    """A source that changed is found, though its size and its time are as they were, and though the program is newer."""
     copy.build()
     copy.use()
     source, program = copy.source("left"), copy.top / "crates/parsolve/out/parsolve"
@@ -220,7 +220,7 @@ def set_back(copy):
 
 
 def laid_over(copy):
-    """An older tree that is laid over this one, with the times that it has, is found, and so is this one when it comes back."""
+    """An older tree that is copied over this one, with its times, is found, and so is this one when it comes back."""
     older = copy.top.parent / "older"
     shutil.copytree(copy.top, older)
     time.sleep(0.02)
@@ -236,7 +236,7 @@ def laid_over(copy):
 
 
 def other_lines(copy):
-    """A change of what a crate stands on is found, and one of a line of tests changes nothing; nor does a comment."""
+    """A change of the crates that a crate uses is found; a line of tests changes nothing, nor does a comment."""
     copy.build()
     lines = (copy.top / "crates.txt").read_text()
     copy.write(copy.top / "crates.txt", f"# of tests\n{lines}other_tests: low\n")
@@ -257,7 +257,7 @@ def moved_sources(copy):
 
 
 def other_programs(copy):
-    """A program that is empty, or another one than was built, doesn't run."""
+    """A program that is empty, or isn't the one that was built, doesn't run."""
     copy.build()
     program = copy.top / "crates/parsolve/out/parsolve"
     text, before = program.read_text(), copy.use()
@@ -270,7 +270,7 @@ def other_programs(copy):
 
 
 def fewer_tools(copy):
-    """Tools without their run bit do as before. Where one is gone, or find isn't on the path, the program doesn't run."""
+    """Tools without their run bit work as before. If one is gone, or find isn't on the path, the program doesn't run."""
     copy.build()
     for name in ("fresh", "sources"):
         (copy.top / "tools" / name).chmod(0o644)
@@ -284,7 +284,7 @@ def fewer_tools(copy):
 
 
 def sums(copy):
-    """Where nothing changed no sum is made, so that a call is quick; where a time did, they are made once."""
+    """If nothing changed, no sum is made, so that a call is quick; if a time did, the sums are made once."""
     copy.build()
     copy.write(copy.kit / "sha256sum", f'#!/bin/sh\necho sum >> "$NOTES"\nexec {shutil.which("sha256sum")} "$@"\n')
     (copy.kit / "sha256sum").chmod(0o755)
@@ -296,7 +296,7 @@ def sums(copy):
 
 
 def failures(copy):
-    """Where a library isn't proved the status is 1, and the error stream says where the log is."""
+    """If a library isn't proved, the status is 1, and the error stream says where the log is."""
     copy.write(copy.source("left"), "wrong")
     status, errors, asked = copy.build()
     log = copy.top / "crates/left/out/build.log"
@@ -304,14 +304,14 @@ def failures(copy):
 
 
 def little_memory(copy):
-    """Where memory is short the libraries are proved one after the other, each by one process, so by statements."""
+    """If memory is short, the libraries are proved one after the other, each by one process, so by statements."""
     *_, asked = copy.build(FITS="1")
     orders = [("low", "left", "right"), ("low", "right", "left")]
     return asked in [[word for name in order for word in (f"start {name}", f"end {name} by statements")] + ["run"] for order in orders]
 
 
 def at_once(copy):
-    """Of two builds at once one builds and the other waits."""
+    """Of two builds at once, one builds and the other waits."""
     copy.notes.write_text("")
     both = [copy.start("build", ()), copy.start("build", ())]
     ended = [(it.communicate(timeout=60), it.returncode)[1] for it in both]
@@ -326,7 +326,7 @@ def other_toolchain(copy):
 
 
 def no_toolchain(copy):
-    """Without a toolchain ./build says what is missing, and ./test --proofs does, in a line."""
+    """Without a toolchain ./build says what is missing, and so does ./test --proofs, in a line."""
     (copy.kit / "rt").unlink()
     for name in ("sh", "awk", "cat", "cut", "dirname", "find", "grep", "readlink", "sha256sum", "sort", "xargs"):
         (copy.kit / name).symlink_to(shutil.which(name))
@@ -338,7 +338,7 @@ def no_toolchain(copy):
 
 
 def releasing(copy):
-    """./build --release takes the program that is built and is of the sources, builds the library, and says what both are."""
+    """./build --release takes the program that was built from the sources, builds the library, and describes both."""
     copy.build()
     copy.write(copy.top / "crates/parsolve_c/out/libparsolve_c.a", "made by the test")
     status, _, asked = copy.build("--release")
@@ -354,8 +354,8 @@ def releasing(copy):
 
 
 def released(copy):
-    """Where nothing is built the released program runs, if it is of these sources, without a toolchain too, in a folder of another name; after
-    a change it doesn't."""
+    """If nothing is built, the released program runs if it was built from these sources, even without a toolchain, in a folder of another
+    name; after a change it doesn't."""
     copy.release()
     for folder in copy.top.glob("crates/*/out"):
         shutil.rmtree(folder)
@@ -370,7 +370,7 @@ def released(copy):
 
 
 def installing(copy):
-    """./build --install lays program, library, tools and pages of release/, and asks the toolchain for nothing."""
+    """./build --install installs program, library, tools and pages of release/, and asks the toolchain for nothing."""
     copy.release()
     shutil.rmtree(copy.top / "crates/parsolve/out", ignore_errors=True)
     folder = copy.top.parent / "a prefix"
@@ -392,7 +392,7 @@ MODULES = re.findall(r"\w+", re.search(r"^MODULES = \"(.*?)\"", (TOP / "test").r
 
 
 def test_of_built(copy):
-    """./test asks the toolchain for nothing, and tries the program that was built and all that needs none."""
+    """./test asks the toolchain for nothing, and tries the program that was built, and everything that needs no program."""
     copy.build()
     status, lines = copy.test()
     program = copy.top / "crates/parsolve/out/parsolve"
@@ -401,21 +401,21 @@ def test_of_built(copy):
 
 
 def test_of_released(copy):
-    """It tries the released program, where nothing is built and that is of the sources."""
+    """It tries the released program if nothing is built and that one was built from the sources."""
     copy.release()
     shutil.rmtree(copy.top / "crates/parsolve/out", ignore_errors=True)
     return f"rows {copy.top / 'release/bin/parsolve'} None False" in copy.test()[1]
 
 
 def test_of_none(copy):
-    """Where no program is of the sources it says so, fails for that, and tries all the rest."""
+    """If no program was built from the sources, it says so, fails for that, and tries all the rest."""
     status, lines = copy.test()
     told = "test: there is no crates/parsolve/out/parsolve, and there is no release/bin/parsolve, so no program is tried"
     return status == 1 and told in lines and "rows None None False" in lines and lines[-1] == f"{len(MODULES)} passed, 1 failed"
 
 
 def test_of_one(copy):
-    """With -k it tries what has the word in its name, and nothing else; with --program another program."""
+    """With -k it tries only the tests whose names have the word; with --program another program."""
     copy.build()
     found = copy.test("-k", "rows"), copy.test("-k", "rows", "--program", "/bin/true"), copy.test("-k", "no such test")
     return found == ((0, [f"rows {copy.top / 'crates/parsolve/out/parsolve'} None False", "1 passed, 0 failed"]),

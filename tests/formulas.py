@@ -1,7 +1,7 @@
-"""`automaton` and `means` beside a plain evaluator of formulas on endless words that come round. A word that comes round is a list of letters
-and the place to which its end leads back; a letter is the set of the names that hold. What `automaton` prints accepts just the words that
-satisfy the formula, on words that are drawn. What `means` answers of automata that are printed, changed or drawn is so: on the word that
-tells them apart they differ as it says, and where it says SAME they agree on words that are drawn."""
+"""Compares `automaton` and `means` with a plain evaluator of formulas on lassos. A lasso is an endless word, given as a list of letters and
+the place to which its end leads back; a letter is the set of the names that hold. On random lassos, the automata of `automaton` accept just
+those that satisfy the formula. The answers of `means` about automata that are printed, changed or random are right: on the word that tells
+them apart they differ as it says, and if it says SAME they agree on random lassos."""
 import functools
 import json
 import random
@@ -38,10 +38,11 @@ SPECIFICATIONS = {
 }
 
 
-# ---- formulas on words that come round
+# ---- formulas on lassos
 
 def solved(word, back, step, first):
-    """The places at which that holds which is made from what holds in the next place: the least solution from False on, the greatest from True."""
+    """Whether something holds at each place, if `step` works that out from the next place: the least solution if `first` is False, the
+    greatest if it is True."""
     values = [first] * len(word)
     while True:
         new = [step(place, values[place + 1 if place + 1 < len(word) else back]) for place in range(len(word))]
@@ -51,7 +52,7 @@ def solved(word, back, step, first):
 
 
 def truths(formula, word, back):
-    """At which places of the word a formula holds."""
+    """Whether a formula holds at each place of the word."""
     kind, *parts = formula
     if kind in ("1", "0"):
         return [kind == "1"] * len(word)
@@ -103,7 +104,7 @@ def random_word(dice, names):
 # ---- automata on them
 
 def accepts(automaton, word, back):
-    """Whether an automaton accepts a word that comes round, of letters that may have other names too."""
+    """Whether an automaton accepts a lasso, whose letters can have other names too."""
     names, state, place, met, seen = automaton.names(), automaton.start, 0, [], {}
     while (state, place) not in seen:
         seen[state, place] = len(met)
@@ -123,7 +124,7 @@ def translated(program, formula, *words):
 
 
 def meant(program, automaton, formula, *words):
-    """What `means` answers of the texts of two files: (status, output, error stream)."""
+    """The answer of `means` on the texts of two files: (status, output, error stream)."""
     with tempfile.TemporaryDirectory() as folder:
         for name, text in (("automaton", automaton), ("formula", formula)):
             with open(f"{folder}/{name}", "wb") as file:
@@ -139,7 +140,7 @@ def word_in(lines):
 
 
 def why_misjudged(program, dice, automaton, formula):
-    """Why what `means` says of the text of an automaton and a formula isn't so, or None."""
+    """Why the answer of `means` on the text of an automaton and a formula is wrong, or None."""
     status, said, errors = meant(program, automaton, spelt(formula))
     read = read_automaton(automaton.encode())
     where = f"{automaton!r}, {spelt(formula)}: status {status}, {said!r}, {errors!r}"
@@ -182,7 +183,7 @@ def changed(dice, text):
 # ---- the tests
 
 def translations(program):
-    """What `automaton` prints for a formula that is drawn accepts just the words that satisfy it, and `means` says so."""
+    """The automaton that `automaton` prints for a random formula accepts just the words that satisfy it, and `means` says so."""
     dice, why = random.Random(3), None
     for _ in range(200):
         formula = random_formula(dice, dice.randint(1, 4), NAMES)
@@ -221,7 +222,7 @@ def repetitive(program):
 
 
 def changes(program):
-    """An automaton of a formula in which an edge is changed, and one that is drawn, are judged as on words."""
+    """An automaton of a formula with one edge changed, and a random one, are judged as on words."""
     dice, why, same, other = random.Random(4), None, 0, 0
     for _ in range(150):
         formula = random_formula(dice, dice.randint(1, 3), NAMES)
@@ -242,7 +243,7 @@ def changes(program):
 
 
 def specifications(program):
-    """From a formula to a circuit: whether there is a controller is known of each, and each run of its circuit satisfies the formula."""
+    """From a formula to a circuit: for each it is known whether there is a controller, and each run of its circuit satisfies the formula."""
     dice = random.Random(6)
     for formula, (outs, is_realizable) in SPECIFICATIONS.items():
         ran = translated(program, formula, "--outs", outs)
@@ -255,7 +256,7 @@ def specifications(program):
 
 
 def why_unsatisfied(dice, text, circuit_text):
-    """Why some run of a circuit on inputs that come round doesn't satisfy the formulas of a text, or None."""
+    """Why some run of a circuit on a lasso of inputs doesn't satisfy the formulas of a text, or None."""
     formulas = [parsed(part) for part in text.split(";")]
     circuit = controllers.Circuit(circuit_text)
     symbols = [line.split(" ") for line in circuit_text.split("\n") if line[:1] in ("i", "o") and line[1:2].isdigit()]
@@ -284,7 +285,7 @@ SETTLED = 'HOA: v1 Start: 0 AP: 2 "a" "b" Acceptance: 2 Inf(0) | Fin(1) --BODY--
 UNTIL = BUCHI + "[0&!1] 0 [1] 1 State: 1 [t] 1 {0} --END--"
 NOTHING = 'HOA: v1 Start: 0 AP: 1 "a" Acceptance: 0 f --BODY-- State: 0 [t] 0 --END--'
 EVERYTHING = "HOA: v1 Start: 0 AP: 0 Acceptance: 0 t --BODY-- State: 0 [t] 0 --END--"
-# each with a formula, and how what `means` answers begins and ends
+# each with a formula, and how the answer of `means` begins and ends
 MEANT = [
     (AGAIN, "G F a", "SAME\n", "SAME\n"), (AGAIN, "F G a", f"DIFFERS\n{ACCEPTS}\n", "\n"), (AGAIN, "G F (a | b)", f"DIFFERS\n{SATISFIES}\n", "\n"),
     (ALWAYS, "G a", "SAME\n", "SAME\n"), (ALWAYS, "! F ! a", "SAME\n", "SAME\n"), (ALWAYS, "G (a & b)", f"DIFFERS\n{ACCEPTS}\n", "\n"),
@@ -298,7 +299,7 @@ MEANT = [
 
 
 def verdicts(program):
-    """What `means` answers of automata and formulas of which it can be told by hand; no more than sixteen names may be in both."""
+    """The answers of `means` on automata and formulas for which they can be worked out by hand; both together may have at most sixteen names."""
     for automaton, formula, begins, ends in MEANT:
         status, said, _ = meant(program, automaton, formula)
         yield f"{automaton}: {formula}", (status, said.startswith(begins), said.endswith(ends)), (0, True, True)
@@ -347,7 +348,7 @@ ALIKE = [
     ("1 & 0 | true & false", "0"), ("0", "a & !a"), ("!" * 4096 + "a", "a"),
 ]
 
-# the names of a formula, in the order in which they come; one that begins like an operator goes as far as it can
+# the names of a formula, in the order in which they come; one that begins like an operator extends as far as it can
 NAMES_IN = {
     "b & a & b": '"b" "a"', '"a" & a & "a b"': '"a" "a b"', '"U" U "G"': '"U" "G"', "F1 & F_ & Fa": '"F1" "F_" "a"', "X1U": '"X1U"',
     "p0.q_1 U _x": '"p0.q_1" "_x"', "aUb": '"aUb"', "&".join("abcdefghijklmnop"): " ".join(f'"{it}"' for it in "abcdefghijklmnop"),
@@ -368,19 +369,19 @@ REFUSED = {
     "nothing": ("", "syntax error at byte 0"),
     "an operand is missing": ("a U", "syntax error at byte 3"),
     "a bracket isn't closed": ("(a & b", "syntax error at byte 6"),
-    "an operator where none may stand": ("a & | b", "syntax error at byte 4"),
+    "a misplaced operator": ("a & | b", "syntax error at byte 4"),
     "a byte that begins no word": ("a $ b", "syntax error at byte 2"),
     "a name in quotes without its end": ('a & "b', "syntax error at byte 4"),
     "seventeen names": (" & ".join(f"p{i}" for i in range(17)), "more than 16 propositions"),
     "4,097 operators": ("!" * 4097 + "a", "more than 4096 operators"),
-    "a semicolon behind 4,096 operators": ("!" * 4096 + "a;", "more than 4096 operators"),
+    "a semicolon after 4,096 operators": ("!" * 4096 + "a;", "more than 4096 operators"),
     "blanks alone": ("  ", "syntax error at byte 2"),
     "two names": ("a b", "syntax error at byte 2"),
     "several in brackets": ("(a; b)", "syntax error at byte 2"),
     "a bracket that is closed alone": ("a)", "syntax error at byte 1"),
     "a semicolon too many": ("a;;", "syntax error at byte 2"),
     "no operator before a byte that begins no word": ("a b $", "syntax error at byte 2"),
-    "a byte that begins no word behind a formula": ("a & b $", "syntax error at byte 6"),
+    "a byte that begins no word after a formula": ("a & b $", "syntax error at byte 6"),
     "a byte that begins no word before two names": ("a & $ b c", "syntax error at byte 4"),
     "a name without a letter": ('a & ""', "syntax error at byte 4"),
     "seventeen names before a byte that begins no word": ("&".join("abcdefghijklmnopq") + "$", "more than 16 propositions"),
@@ -389,7 +390,7 @@ REFUSED = {
 
 
 def refusals(program):
-    """A text that is no formula is refused by one line, with status 1 and no output, by both commands."""
+    """A text that is no formula is refused with one line, with status 1 and no output, by both commands."""
     automaton = translated(program, "G a").stdout.decode()
     for name, (text, told) in REFUSED.items():
         ran = translated(program, text)
@@ -416,7 +417,7 @@ def counts_in(errors):
 
 
 def figures(program):
-    """Both commands count the same of an automaton that is printed."""
+    """Both commands count the same for a printed automaton."""
     # by hand: from the only state no word satisfies 0, and the complement's only state leads back to itself
     yield "figures of 1", counts_in(translated(program, "1", "--json").stderr), dict(zip(COUNTED, (0, 1, 1, 0, 1, 1)))
     for text in SPECIFICATIONS:

@@ -1,18 +1,18 @@
 #!/usr/bin/env python3
 """Checks how the definitions are laid out, and that the documents that list them are true.
 
-Whoever wants to believe what is proved reads the believed modules: the files of a crate's `specs/` but `Lib`, and what
-`Mirrors` and `Lemmas` list. So
-- no believed module names a mirror, a lemma or a proof, of its own crate or of another (`Rattle.std.proofs.Common`, which
-  holds constructors of the logic, aside), and no `Lib` passes one on;
+To believe what is proved, you read the believed modules: the files of a crate's `specs/`, except `Lib` and what `Mirrors`
+and `Lemmas` list. So
+- no believed module names a mirror, a lemma or a proof, of its own crate or of another (except `Rattle.std.proofs.Common`,
+  which holds constructors of the logic), and no `Lib` passes one on;
 - docs/map.md lists each believed module once, with the number of its lines, in the first chain that needs it, and the public calls
   whose contracts name a mirror all the same; the numbers of its chains are right;
-- each name of docs/definitions.md is defined in the file that stands beside it;
-- each call and law that the README and the pages of docs/ name is there, and so is each clause, definition and edit of
-  docs/promises.md, whose first table names those that the gate tries;
-- five crates of the kit are used where the product is to stand on them, and the README says that they are trusted.
+- each name of docs/definitions.md is defined in the file named beside it;
+- each call and law that the README and the pages of docs/ name exists, and so does each clause, definition and edit of
+  docs/promises.md, whose first table names the edits that the gate tries;
+- five crates of the kit are used where the product is meant to use them, and the README says that they are trusted.
 
-    tests/layout.py    corrects both documents as far as that needs no words: numbers of lines, files that are gone or new, the file of a
+    tests/layout.py    corrects both documents if no text must be written: numbers of lines, files that are gone or new, the file of a
                        definition that has moved
 """
 import argparse
@@ -33,7 +33,7 @@ ROW = re.compile(r"^\| `(\w+/specs/[\w/]+\.antt)` \| (\d+) \|", re.M)
 
 
 def modules():
-    """(believed modules, files that list others, modules that stand apart), by crate; those of tests promise nothing."""
+    """(believed modules, files that list others, modules that are kept apart), by crate; those of tests promise nothing."""
     believed, lists, apart = [], [], []
     for path in sorted(CRATES.glob("*/specs/**/*.antt")):
         below = path.relative_to(CRATES).with_suffix("").parts[2:]
@@ -88,13 +88,13 @@ def rows_of_map():
     names = [name for name, _ in rows]
     for path in modules()[0]:
         if shown(path) not in names and not is_of_tests(path):
-            yield shown(path), "stands in no row of docs/map.md: add one, where it is to be read"
+            yield shown(path), "is in no row of docs/map.md: add one where readers should meet it"
     for name, lines in rows:
         path = CRATES / name
         if not path.is_file():
-            yield name, "stands in docs/map.md, and there is no such file"
+            yield name, "is in docs/map.md, but there is no such file"
         elif names.count(name) > 1:
-            yield name, "stands in docs/map.md twice"
+            yield name, "is in docs/map.md twice"
         elif line_count(path) != int(lines):
             yield name, f"has {line_count(path)} lines, and docs/map.md says {lines}: run tests/layout.py"
         else:
@@ -102,7 +102,7 @@ def rows_of_map():
 
 
 def chain_rows():
-    """For each chain of docs/map.md, and for all, how its row has to end."""
+    """For each chain of docs/map.md, and for all, how its row must end."""
     for name, chain in chains.chains().items():
         yield f"`{name}`", f"| {len(chain.files)} | {chain.lines} | {chain.own} |"
     read = [path for path in modules()[0] if not is_of_tests(path)]
@@ -110,10 +110,10 @@ def chain_rows():
 
 
 def rows_of_chains():
-    """The same for the chains: their laws, their numbers, and which files stand in their sections."""
+    """The same for the chains: their laws, their numbers, and the files in their sections."""
     text = MAP.read_text()
     for law in chains.missing():
-        yield law, "isn't there, as tests/chains.py says"
+        yield law, "isn't there, though tests/chains.py says so"
     for name, end in chain_rows():
         is_there = re.search(rf"^\| {name} \| .* {re.escape(end)}$", text, re.M)
         yield f"chain {name}", None if is_there else f"its row doesn't end in {end}: run tests/layout.py"
@@ -137,11 +137,11 @@ def entries():
             paths = [CRATES / crate / "specs" / file for file in files]
             for name in (words.split()[0] for words in names):
                 is_there = any(path.is_file() and defined(name, path) for path in paths)
-                yield name, None if is_there else f"isn't in {crate}/specs/{' or '.join(files)}, as docs/definitions.md says"
+                yield name, None if is_there else f"isn't in {crate}/specs/{' or '.join(files)}, though docs/definitions.md says so"
 
 
 def offered(crate):
-    """(file, names) of each module with items that the crate offers; None where it offers all that are public there."""
+    """(file, names) of each module with items that the crate offers; None if it offers all that are public there."""
     text = (crate / "src/lib.rt").read_text() if (crate / "src/lib.rt").is_file() else ""
     for name in re.findall(r"^pub mod (\w+);", text, re.M):
         yield crate / f"src/{name}.rt", None
@@ -182,7 +182,7 @@ def exceptions():
 
 
 def sources(crate):
-    """The files of the crate, and of those whose items it hands on."""
+    """The files of the crate, and of those whose items it re-exports."""
     text = (CRATES / crate / "src/lib.rt").read_text() if (CRATES / crate / "src/lib.rt").is_file() else ""
     for name in {crate, *re.findall(r"^pub use (pg_\w+)::", text, re.M)}:
         yield from (CRATES / name / "src").rglob("*.rt")
@@ -194,7 +194,7 @@ def calls():
         for crate, name in re.findall(r"`(pg_\w+)::(?:\w+::)*(\w+)`", document.read_text()):
             item = re.compile(rf"(?:\bpub (?:fn|struct|trait|mod)|^    fn) {name}\b", re.M)
             is_there = any(item.search(path.read_text()) for path in sources(crate))
-            yield name, None if is_there else f"isn't in {crate}, as {document.name} says"
+            yield name, None if is_there else f"isn't in {crate}, though {document.name} says so"
 
 
 def promises():
@@ -204,7 +204,7 @@ def promises():
     named = {name for names in found for name in names}
     for name in sorted(set(re.findall(r"`([A-Za-z]\w*)`", "".join(re.findall(r"^\| .*\n", PROMISES.read_text(), re.M))))):
         is_there = name in named or (CRATES / name).is_dir() or any(defined(name, path) for path in modules()[0])
-        yield name, None if is_there else "isn't there, as docs/promises.md says"
+        yield name, None if is_there else "isn't there, though docs/promises.md says so"
 
 
 def edits():
@@ -218,23 +218,23 @@ def edits():
         yield name, None if (crate, name) in first & kept else f"isn't both in {crate}/must-fail and in the first table of docs/promises.md"
     for crate, name in sorted(set(names.findall(text)) - first):
         is_there = (TOP / "edits" / crate / f"{name}.edit").is_file()
-        yield name, None if is_there else f"isn't in edits/{crate}, as docs/promises.md says"
+        yield name, None if is_there else f"isn't in edits/{crate}, though docs/promises.md says so"
 
 
 def kit():
-    """The same for each crate of the kit that KIT names, in each crate that is to use it."""
+    """The same for each crate of the kit that KIT names, in each crate that must use it."""
     listed = dict(re.findall(r"^(\w+)[^:\n]*:(.*)", (TOP / "crates.txt").read_text(), re.M))
     trusted = re.search(r"\*\*Trusted\*\*:((?:.|\n)*?)\n\n", README.read_text())[1]
     for name, crates in KIT.items():
-        yield name, None if f"`{name}`" in trusted else "isn't among what README.md says is trusted"
+        yield name, None if f"`{name}`" in trusted else "isn't among those that README.md says are trusted"
         for crate in crates.split():
             code = "".join(path.read_text() for path in (CRATES / crate / "src").rglob("*.rt"))
             is_used = name in listed[crate].split() and re.search(rf"^use {name}\b", code, re.M)
-            yield f"{crate}, {name}", None if is_used else "isn't used: the product is to stand on it there"
+            yield f"{crate}, {name}", None if is_used else "isn't used: the product is meant to use it there"
 
 
 def write_map():
-    """Sets the numbers of lines, takes out rows of files that are gone, and puts new modules behind others of their crate."""
+    """Sets the numbers of lines, takes out rows of files that are gone, and puts new modules after others of their crate."""
     rows = MAP.read_text().split("\n")
     kept = []
     for row in rows:
@@ -258,7 +258,7 @@ def write_map():
 
 
 def write_definitions():
-    """Sets the files of entries, also of those that name none yet, where each name stands in one file of the crate."""
+    """Sets the files of entries, also of those that name none yet, if each name is in one file of the crate."""
     text, crate = [], None
     for row in DEFINITIONS.read_text().split("\n"):
         crate = re.match(r"## .*\(`(\w+)`\)|", row)[1] or crate

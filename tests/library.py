@@ -1,5 +1,5 @@
-"""Takes the program of docs/library.md into a fresh repository beside the crates that it stands on, and has a gate there prove and run it,
-and refuse its wrong body. What a gate proved on this machine of the same files isn't proved again."""
+"""Puts the program of docs/library.md into a fresh repository beside the crates that it uses, and has a gate there prove and run it, and
+refuse its wrong body. What a gate has proved of the same files on this machine isn't proved again."""
 import pathlib
 import re
 import shutil
@@ -19,7 +19,7 @@ def program():
 
 
 def uses():
-    """What each crate stands on, by crates.txt."""
+    """The crates that each crate uses, by crates.txt."""
     rows = (line.partition("#")[0].partition(":") for line in (TOP / "crates.txt").read_text().splitlines())
     return {name.split()[0]: below.split() for name, _, below in rows if name.strip()}
 
@@ -50,7 +50,7 @@ def copy_crates(folder, names):
 
 
 def lay_out(folder, line, source):
-    """A repository of the program and the crates that it stands on, with what the program prints and its wrong body as a must-fail edit."""
+    """A repository of the program and the crates that it uses, with what the program prints and its wrong body as a must-fail edit."""
     name, _, below = line.partition(":")
     copy_crates(folder, below.split())
     with open(folder / "crates.txt", "a") as listed:

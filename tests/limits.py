@@ -1,11 +1,11 @@
-"""Games and automata at the limits and just over them: what the program tells of each, or answers, was worked out by hand."""
+"""Games and automata at the limits and just over them: the message or the answer for each was worked out by hand."""
 import subprocess
 
 import case
 from refused import refusal_differs
 
 VERTICES, EDGES = 1_048_576, 8_388_608
-SUCCESSORS = 2_048  # of each line of a game that has as many edges as there can be
+SUCCESSORS = 2_048  # of each line of a game with as many edges as there can be
 LINES = EDGES // SUCCESSORS
 
 SIXTEEN = "HOA: v1 Acceptance: 0 t AP: 16 " + " ".join(f'"{it}"' for it in "abcdefghijklmnop") + " "
@@ -13,7 +13,7 @@ LABEL = "HOA: v1 Start: 0 Acceptance: 0 t --BODY-- State: 0 ["
 END = "] 0 --END--"
 MANY = "automaton too large"
 
-# counts and numbers at the limit, and states over it, each with what is told, or None where the automaton is read
+# counts and numbers at the limit, and states over it, each with the message, or None if the automaton is read
 COUNTS = [
     ('States: 65535 Start: 0 Acceptance: 0 t --BODY-- --END--', None),
     ('States: 65535 Start: 65534 Acceptance: 0 t --BODY-- --END--', None),
@@ -30,7 +30,7 @@ COUNTS = [
     ('States: 65535 Start: 0 Acceptance: 0 t --BODY-- State: 0 [t] 65535 ?', MANY),
 ]
 
-# at most 16,777,216 states times letters, counted behind the end and before two edges are compared; the least letter of the last row has
+# at most 16,777,216 states times letters, counted after the end and before two edges are compared; the least letter of the last row has
 # propositions 0, 7, 10 and 15
 TABLES = [
     ('Start: 0 --BODY-- --END--', None),
@@ -46,8 +46,8 @@ TABLES = [
     ('Start: 0 --BODY-- State: 1 [15&7&0] 1 [15&10&7&6] 0 [15&10&!6] 0 --END--', 'state 1 is not deterministic at letter 33921'),
 ]
 
-# what stands side by side doesn't add up, a `!` counts round its operand alone, the bracket behind `Inf` or `Fin` is no level, and a comment
-# nested too deep is refused as such where it doesn't end, too
+# neighbours don't add up, a `!` counts around its operand alone, the bracket after `Inf` or `Fin` is no level, and a comment nested too deep
+# is refused as such even if it doesn't end
 NESTED = [
     (LABEL + '(' * 8192 + 't' + ')' * 8192 + END, None),
     (LABEL + '(' * 8193 + 't' + ')' * 8193 + END, MANY),
@@ -75,12 +75,12 @@ NESTED = [
 
 
 def fan(identifier, successors):
-    """A line that leads to so many vertices from 0 on."""
+    """A line that leads to the given number of vertices, from 0 on."""
     return f"{identifier} 1 1 {','.join(map(str, range(successors)))};\n"
 
 
 def games_of_many_vertices():
-    """(text, what is told of it, or the measures of the game that it spells), of games of as many vertices as there can be."""
+    """(text, the message, or the measures of the game that it spells), for games with as many vertices as there can be."""
     rising, greatest = range(VERTICES), 2**32 - 1
     falling = range(greatest, greatest - 4096 * VERTICES, -4096)
     for identifiers, first, free in ((rising, None, VERTICES), (falling, greatest, greatest - 1)):
@@ -91,8 +91,8 @@ def games_of_many_vertices():
 
 
 def games_of_many_edges():
-    """The same of games of as many edges as there can be, where Odd owns all vertices and their priority is odd. A successor that is repeated
-    is no edge."""
+    """The same for games with as many edges as there can be, where Odd owns all vertices and their priority is odd. A repeated successor is no
+    edge."""
     fans = "".join(fan(v, SUCCESSORS) for v in range(LINES - 1))
     full, short = fans + fan(LINES - 1, SUCCESSORS), fans + fan(LINES - 1, SUCCESSORS - 1)
     yield full, "".join(f"{v} T;\n" for v in range(LINES))
@@ -104,11 +104,11 @@ def games_of_many_edges():
 
 
 def automata():
-    """(text, what is told of it, or None where it spells an automaton)."""
+    """(text, the message, or None if it spells an automaton)."""
     yield from (("HOA: v1 " + text, told) for text, told in COUNTS)
     yield from ((SIXTEEN + text, told) for text, told in TABLES)
     yield from NESTED
-    # a condition of a parity shape over as many sets as there can be, and the same but for what stands behind it
+    # a condition of a parity shape over as many sets as there can be, and the same except for what follows it
     condition = "".join(f"Fin({odd}) & (Inf({odd - 1}) | (" for odd in range(4095, 1, -2)) + "Fin(1) & Inf(0)" + "))" * 2047
     yield f"HOA: v1 Start: 0 Acceptance: 4096 {condition} --BODY-- State: 0 {{4095}} [t] 0 {{0}} --END--", None
     yield f"HOA: v1 Start: 0 Acceptance: 4096 {condition} & t --BODY-- --END--", "acceptance is not a supported parity condition"
@@ -123,7 +123,7 @@ def answer_differs(program, text, measures):
 
 
 def of_games(program, games):
-    """What the program doesn't answer as it should of games at the limits or just over them, or None."""
+    """What the program answers wrongly about games at the limits or just over them, or None."""
     for text, wanted in games:
         is_told = not wanted.endswith("\n")
         why = refusal_differs(program, "measure", text, wanted) if is_told else answer_differs(program, text, wanted)
@@ -133,7 +133,7 @@ def of_games(program, games):
 
 
 def of_automata(program):
-    """The same of automata. The game of one that is read may be too large."""
+    """The same for automata. The game of one that is read can be too large."""
     for text, told in automata():
         ran = subprocess.run([program, "game"], input=text.encode(), capture_output=True, timeout=120)
         fault = case.without_notes(ran.stderr).decode()

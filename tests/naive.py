@@ -1,18 +1,18 @@
-"""Progress measures and worlds by the definition, as plainly as it can be said: for games of a few vertices.
+"""Progress measures and worlds by the definition, as plainly as possible: for games of a few vertices.
 
 A game is a dictionary from identifiers to (priority, owner, successors). A measure is a list of components, one for
 each odd priority that occurs, the greatest first, or TOP. A script is (number of workers, cut, events): the cut is a list
-of the workers of the vertices, by rising identifier, or None, and an event a word and its numbers, as it is written.
+of the workers of the vertices, by rising identifier, or None, and an event is a word and its numbers, as it is written.
 """
 TOP = None
 
 
 class TooFar(Exception):
-    """What is raised where measures climb too far for the lifts that are allowed."""
+    """Raised if measures climb too far for the lifts that are allowed."""
 
 
 def bounds_of(game):
-    """The odd priorities that occur, falling, each with the number of its vertices."""
+    """The odd priorities that occur, in falling order, each with the number of its vertices."""
     odd = sorted({p for p, _, _ in game.values() if p % 2 == 1}, reverse=True)
     return [(p, sum(1 for q, _, _ in game.values() if q == p)) for p in odd]
 
@@ -32,7 +32,7 @@ def covers(bounds, p, m, n):
 
 
 def all_measures(bounds):
-    """Every measure of the bounds, rising; top is the last."""
+    """Every measure within the bounds, in rising order; top is the last."""
     lists = [[]]
     for _, most in bounds:
         lists = [xs + [x] for xs in lists for x in range(most + 1)]
@@ -67,8 +67,8 @@ def least_progress_measure(game):
 
 
 def least_step(bounds, p, m):
-    """The least measure that covers m at p, without a look at others: the components that count, of which the last one that may
-    rise rises where p is odd."""
+    """The least measure that covers m at p, without a look at others: the components that count, of which the last one that can
+    rise rises if p is odd."""
     if m is TOP:
         return TOP
     front = m[:sum(1 for q, _ in bounds if q >= p)]
@@ -82,8 +82,8 @@ def least_step(bounds, p, m):
 
 
 def climbed(game, most):
-    """The least progress measure by lifts alone, each of a vertex that waits, for games of more vertices; it is given up after so
-    many lifts."""
+    """The least progress measure by lifts alone, each of a vertex that waits, for games of more vertices; it gives up after `most`
+    lifts."""
     bounds, f, lifts = bounds_of(game), zeros(game), 0
     sources = {v: [u for u in game if v in game[u][2]] for v in game}
     waiting = dict.fromkeys(game)
@@ -149,7 +149,7 @@ def solution_text(game):
 
 
 def worker_of(game, script, v):
-    """The worker of a vertex; 0 where there is none."""
+    """The worker of a vertex; 0 if there is none."""
     workers, cut, _ = script
     place = sorted(game).index(v)
     return cut[place] if cut else 1 + place * workers // len(game) if workers else 0
@@ -180,7 +180,7 @@ def refusal(game, script, updates, event):
 
 
 def replay(game, script):
-    """(the updates, what each replica took) after the events, or the line that is told of the first that is refused."""
+    """(the updates, what each replica took) after the events, or the line about the first that is refused."""
     bounds, updates, taken = bounds_of(game), [], [[] for _ in range(script[0] + 1)]
     measures = all_measures(bounds)
     for place, event in enumerate(script[2]):

@@ -1,5 +1,5 @@
 """Checks the pages: links and paths lead to files, lines are short, the first line says who the page is for, no decision is long, and
-code that is shown is that of the sources; that the examples which scripts make are what these print; and that CHANGELOG.md begins
+code on the pages is that of the sources; that the examples made by scripts are what the scripts print; and that CHANGELOG.md begins
 with the version of the program."""
 import re
 import subprocess
@@ -38,7 +38,7 @@ def lines():
 
 
 def audiences():
-    """The same for the first line of each page, which says who it is for; the README says it of each page."""
+    """The same for the first line of each page, which says who it is for; the README says it for each page."""
     for page in PAGES:
         if page != TOP / "README.md":
             first = page.read_text().split("\n")[2]
@@ -53,7 +53,7 @@ def decisions():
 
 
 def libraries_above(crate):
-    """The libraries that stand on a crate, by crates.txt, but for crates of tests and programs."""
+    """The libraries that use a crate, by crates.txt, without crates of tests and programs."""
     lines = [line.split("#")[0].partition(":") for line in (TOP / "crates.txt").read_text().splitlines()]
     below = {name.strip(): names.split() for name, mark, names in lines if mark}
     found = {crate}
@@ -72,7 +72,7 @@ def shown_code():
     is_there = edit.is_file() and edit.read_text().splitlines()[1].removeprefix("old: ") in function
     yield f"docs/first_change.md: {edit.name}", None if is_there else "doesn't change a line of the function"
     count = len(libraries_above("pg_arena"))
-    yield "docs/first_change.md: libraries", None if f" {count} libraries " in text else f"{count} libraries stand on pg_arena"
+    yield "docs/first_change.md: libraries", None if f" {count} libraries " in text else f"{count} libraries use pg_arena"
 
 
 def shown_diffs():
@@ -102,7 +102,7 @@ def examples():
 
 
 def version():
-    """The same for the version that CHANGELOG.md says first: `--version` says the same one."""
+    """The same for the version that CHANGELOG.md names first: `--version` prints the same one."""
     said = re.search(r'^const VERSION: &str = "(.*)";$', (TOP / "crates/pg_cli_words/src/words.rt").read_text(), re.M)
     is_first = said and re.search(r"^## (.*) \(", (TOP / "CHANGELOG.md").read_text(), re.M)[1] == said[1]
     yield "CHANGELOG.md: the version", None if is_first else "isn't the one that --version says"

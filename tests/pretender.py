@@ -1,7 +1,7 @@
 #!/usr/bin/env python3
 """Programs that pretend to be a worker: each is this file under the name of what it does, started as `NAME worker --port P`.
 The variable PARSOLVE_PROGRAM names the program that is tested, PARSOLVE_FOLDER a folder for what they note, and PARSOLVE_SEED
-what the values are made of that look random.
+the seed of the values that look random.
 """
 import os
 import random
@@ -22,7 +22,7 @@ def connect(port):
 
 
 def note(name, text=""):
-    """Notes that something happened; whether it is the first to."""
+    """Notes that something happened; answers whether this is the first time."""
     try:
         with open(os.path.join(os.environ["PARSOLVE_FOLDER"], name), "x") as file:
             file.write(text)
@@ -82,8 +82,8 @@ def vertices_in(body):
 
 
 class Worker:
-    """Follows the turns of the wire format, but answers a Go by `reply(self)`, the bytes ahead of the report. A set-up of
-    version 2 is answered by `first`."""
+    """Follows the turns of the wire format, but answers a Go with `reply(self)`, the bytes before the report. It answers a
+    set-up of version 2 with `first`."""
 
     def __init__(self, reply, first=QUIET, report=QUIET):
         self.reply, self.first, self.report = reply, first, report
@@ -160,7 +160,7 @@ def above_the_bounds(worker):
 
 
 def send_first(port, data, then=None):
-    """Reads one frame, answers by these bytes, and then does something, or reads on."""
+    """Reads one frame, answers with these bytes, and then does something, or reads on."""
     stream = connect(port)
     read_frame(stream)
     stream.sendall(data)
@@ -201,7 +201,7 @@ def relay(port, seen, change=lambda whole: whole):
 
 
 def killed_after(port, count):
-    """The first of these programs is killed behind so many frames that it sent; the others do their work."""
+    """The first of these programs is killed after it has sent the given number of frames; the others do their work."""
     if not note("victim"):
         become_worker(port)
     passed = []
@@ -249,7 +249,7 @@ def silent_once(port):
 
 
 def slow(port, seconds):
-    """Does its work, and stops for so many seconds behind each turn."""
+    """Does its work, and pauses for the given number of seconds after each turn."""
     relay(port, lambda whole: whole[4] == REPORT and time.sleep(seconds))
 
 
@@ -268,13 +268,13 @@ def raises_to_top(port):
 
 
 def leaves_another(port):
-    """Starts a program that goes on, and does its work."""
+    """Starts a program that keeps running, and does its work."""
     subprocess.Popen(["sleep", "3600"])
     become_worker(port)
 
 
 def after_another(port):
-    """Another program connects to the port ahead of this one."""
+    """Another program connects to the port before this one."""
     with connect(int(os.environ["PARSOLVE_OTHER"])) as other:
         other.sendall(b"%d\n" % port)
         other.recv(1)

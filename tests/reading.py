@@ -1,13 +1,13 @@
-"""Texts that are read, in spellings that people and tools write, each with what it spells, worked out by hand. An automaton is told in a line,
-and written from it as a plain text with an edge for each letter: both texts have to get the same game, and the same answer of `synth`. A game
-has to be answered as its printed layout."""
+"""Texts that are read, in spellings that people and tools write, each with its meaning, worked out by hand. A line describes an automaton, and
+from it a plain text with an edge for each letter is written: both texts must get the same game, and the same answer of `synth`. A game must
+get the same answer as its printed layout."""
 import re
 import subprocess
 
 import case
 import controllers
 
-# ---- automata: `2 states from 1, a*, b, 2 sets, MinOdd: 0.1>1[0, 1]` tells that a is the controller's, and that from state 0 the letter 1 leads
+# ---- automata: `2 states from 1, a*, b, 2 sets, MinOdd: 0.1>1[0, 1]` says that a is the controller's, and that from state 0 the letter 1 leads
 # to state 1, where the sets 0 and 1 are met
 
 # headers in any order and headers that are skipped, names of propositions, comments, white space, and counts of states
@@ -79,7 +79,7 @@ WHOLE = [
      "2 states from 0, 0 sets, Never: 0.0>1[] 1.0>1[]"),
 ]
 
-# what stands behind a head, and the steps that come of it: sets stand on states and on edges
+# texts after a head, and the steps that they give: sets are on states and on edges
 SETS = [
     ("State: 0 [t] 1 --END--", " 0.0>1[]"),
     ("State: 0 {} [t] 1 {} --END--", " 0.0>1[]"),
@@ -133,7 +133,7 @@ GROUPS = [
     ("0 & (1 | !(2 | f)) & t] 0 --END--", " 0.1>0[] 0.3>0[] 0.7>0[]"),
     ("f | 2 & f | t & 2 & 1] 0 --END--", " 0.6>0[] 0.7>0[]"),
 ]
-# where the least set counts, edges agree that do not agree on the greatest
+# if the least set counts, edges agree that do not agree on the greatest
 LEAST_SETS = [
     ("2 Inf(0) | Fin(1) --BODY-- State: 0 [t] 0 {0 1} [0] 0 {0} --END--", "1 states from 0, a, 2 sets, MinEven: 0.0>0[0, 1] 0.1>0[0, 1]"),
     ("2 Inf(0) | Fin(1) --BODY-- State: 0 [0] 0 {0} [t] 0 {0 1} --END--", "1 states from 0, a, 2 sets, MinEven: 0.0>0[0, 1] 0.1>0[0]"),
@@ -141,7 +141,7 @@ LEAST_SETS = [
     ("3 Fin(0) & (Inf(1) | Fin(2)) --BODY-- State: 0 [!0] 0 {1} [t] 0 {2 1} --END--", "1 states from 0, a, 3 sets, MinOdd: 0.0>0[1] 0.1>0[1, 2]"),
 ]
 
-# each head, what is told of it, and what may stand behind it
+# each head, its line, and the texts that can follow it
 HEADS = [
     ("HOA: v1 States: 2 Start: 0 Acceptance: 4 Fin(3) & (Inf(2) | Fin(1) & Inf(0)) --BODY-- ", "2 states from 0, 4 sets, MaxEven:", SETS),
     ('HOA: v1 States: 2 Start: 0 AP: 2 "a" "b" Acceptance: 2 Fin(1) & Inf(0) --BODY-- ', "2 states from 0, a, b, 2 sets, MaxEven:", LABELS),
@@ -233,7 +233,7 @@ State: 1 {1}
 """, "2 states from 0, a, b, 2 sets, MinOdd: 0.1>0[0] 0.2>1[0] 0.3>1[0] 1.0>1[1] 1.1>1[1] 1.2>1[1] 1.3>1[1]"),
 ]
 
-# labels over sixteen propositions, and on which letters edges with them lead on; sixty-four letters in a row agree on those from 6 on
+# labels over sixteen propositions, and the letters on which edges with them lead on, or don't; sixty-four letters in a row agree on those from 6 on
 LETTERS = {
     "6": {63: False, 64: True, 127: True, 128: False},
     "7 & !6": {128: True, 192: False},
@@ -246,7 +246,7 @@ STEP = re.compile(r" (\d+)\.(\d+)>(\d+)\[([\d, ]*)\]")
 
 
 def plain(told):
-    """The plain text of the automaton that is told."""
+    """The plain text of the automaton that a line describes."""
     head, _, steps = told.rpartition(":")
     states, *names, sets, shape = head.split(", ")
     states, start = states.split(" states from ")
@@ -274,13 +274,13 @@ def with_steps(text, told):
 
 
 def automata():
-    """(text, what is told of it)."""
+    """(text, the line of its automaton)."""
     yield from (with_steps(text, told) for text, told in WHOLE)
     for head, told, rows in HEADS:
         yield from ((head + text, told + steps) for text, steps in rows)
     for shape, conditions in CONDITIONS.items():
         for condition in conditions:
-            # letter by letter another set is met, as far as there are so many
+            # each letter meets another set, as far as there are enough sets
             sets = int(condition.split(" ")[0])
             edges = [f"[{label}] 0 {{{it if it < sets else ''}}}" for it, label in enumerate(["!0&!1", "0&!1", "!0&1", "0&1"])]
             yield (f'HOA: v1 Start: 0 AP: 2 "a" "b" Acceptance: {condition} --BODY-- State: 0 {" ".join(edges)} --END--',
@@ -314,7 +314,7 @@ def of_letters(program):
 
 # ---- games
 
-# texts of games as programs print them, and how they may differ from these, each with the printed layout
+# texts of games as programs print them, and texts that differ from these, each with the printed layout
 GAMES = {
     "leading zeros": (b'parity 07;007 0000 001 00000000000000000007;', b'parity 7;\n7 0 1 7;\n'),
     "tokens without white space between them": (b'parity4;start9;0 1 0 4,0,0"a b";4 0 1 0;', b'parity 4;\n0 1 0 0,4 "a b";\n4 0 1 0;\n'),

@@ -1,5 +1,5 @@
-"""Texts that are refused: every place of a text of a game or of a solution with every token that may not stand there, and texts that end too
-early. What is told of each was worked out by hand."""
+"""Texts that are refused: every place of a text of a game or of a solution with every token that isn't allowed there, and texts that end too
+early. The message for each was worked out by hand."""
 import subprocess
 
 import case
@@ -8,7 +8,7 @@ TOO_LARGE = "4294967296"
 # numbers, words, marks, a string, a string without its second quote, a byte with which no token begins, and the end
 TOKENS = ["0", "7", TOO_LARGE, "x", "parity", "start", "paritysol", ";", ",", '"a"', '"a;', "$", ""]
 
-# what stands in front in a text of a game, and the tokens that may follow
+# beginnings of a text of a game, and the tokens that may follow
 OF_A_GAME = {
     "": ["parity", "start", "0", "7", ""],
     "parity": ["0", "7"],
@@ -29,7 +29,7 @@ OF_A_GAME = {
 }
 
 TWO = "parity 1;\n0 1 0 0,1;\n1 2 1 0;\n--\n"
-# the same of a solution of this game
+# the same for a solution of this game
 OF_A_SOLUTION = {
     "": ["paritysol", "0", "7", ""],
     "paritysol": ["0", "7"],
@@ -44,7 +44,7 @@ OF_A_SOLUTION = {
 
 
 def misplaced_tokens(program):
-    """What the program doesn't tell as it should of a token that may not stand where it does, or None."""
+    """What is wrong with the program's message about a misplaced token, or None."""
     for command, head, places in (("measure", "", OF_A_GAME), ("check", TWO, OF_A_SOLUTION)):
         for front, may_follow in places.items():
             for token in TOKENS:
@@ -57,7 +57,7 @@ def misplaced_tokens(program):
 
 
 def refusal_differs(program, command, text, told):
-    """Why the text isn't refused by what has to be told of it, or None."""
+    """Why the text isn't refused with the right message, or None."""
     ran = subprocess.run([program, command], input=text.encode(), capture_output=True, timeout=120)
     if (ran.returncode, ran.stdout, case.without_notes(ran.stderr)) == (1, b"", f"parsolve: {told}\n".encode()):
         return None
@@ -69,8 +69,8 @@ TURNS = 'HOA: v1 Start: 0 AP: 1 "g" controllable-AP: 0 Acceptance: 1 Inf(0) --BO
 
 
 def texts_that_end_too_early(program):
-    """A game's text that lacks but its last newline is answered; each other that is cut, an automaton's and a formula's too, is refused,
-    and nothing is written. What the program does otherwise, or None."""
+    """A game's text that lacks only its last newline is answered; each other text that is cut, an automaton's and a formula's too, is
+    refused, and nothing is written. What the program does instead, or None."""
     game = TWO.removesuffix("--\n")
     for command, text, answered in (("solve", game, len(game) - 1), ("synth", TURNS, None), ("automaton", "(G (a -> F b))", None)):
         for end in range(len(text)):

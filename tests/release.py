@@ -1,5 +1,5 @@
-"""Checks release/: ABOUT tells what is there, and where something was proved, that it is of these sources, and the program the same, byte
-for byte, as what was built of them by the same kit."""
+"""Checks release/: ABOUT describes what is there. If something was proved, the release is of these sources, and its program is the same, byte
+for byte, as the one that the same kit built from them."""
 import hashlib
 import subprocess
 
@@ -15,7 +15,7 @@ def output(*words):
 
 
 def about():
-    """What ABOUT has of each word: the lines, without it."""
+    """The lines of ABOUT by their first word, without it."""
     found = {}
     for line in ABOUT.read_text().splitlines():
         word, _, rest = line.partition(" ")
@@ -24,14 +24,14 @@ def about():
 
 
 def told():
-    """ABOUT tells the version, and the sum of each program and library."""
+    """ABOUT has the version, and the sum of each program and library."""
     yield "the version", about()["program"], [output(RELEASED / "bin/parsolve", "--version")]
     files = [path for pattern in ("bin/*", "lib/libparsolve.*") for path in sorted(RELEASED.glob(pattern))]
     yield "sums", about()["sha256"], [f"{hashlib.sha256(it.read_bytes()).hexdigest()} {it.name}" for it in files]
 
 
 def of_sources():
-    """It is of these sources: ./build --release makes it anew."""
+    """The release is of these sources; if it isn't, ./build --release makes it again."""
     if not case.IS_PROVING:
         yield "the sources", case.LeftOut("only ./test --proofs asks whether release/ is of these sources")
         return
@@ -41,7 +41,7 @@ def of_sources():
         yield "what was built", case.LeftOut(f"release/ was made by {about()['kit'][0]}, and this is {kit}")
         return
     is_same = (RELEASED / "bin/parsolve").read_bytes() == (TOP / "crates/parsolve/out/parsolve").read_bytes()
-    yield "what was built", None if is_same else "is something else than release/bin/parsolve"
+    yield "what was built", None if is_same else "differs from release/bin/parsolve"
 
 
 Tests = case.tests(__name__, told, of_sources)

@@ -1,5 +1,5 @@
 """Checks what tools/hoa makes of automata that `parsolve` doesn't read: the steps of the examples, letter by letter, as they were worked
-out by hand; labels and automata at random, labels as Python evaluates them; and what is refused."""
+out by hand; random labels and automata, labels as Python evaluates them; and what it refuses."""
 import random
 import re
 import subprocess
@@ -10,8 +10,8 @@ import controllers
 from case import TOP
 
 
-# For each example: the header of what the controller sets, the condition, and the step of each state by letters 0, 1, 2, ..: a target
-# and a set, or only a target, or None where there is no step. Then what `synth` says.
+# For each example: the header that lists the controller's propositions, the condition, and the step of each state by letters 0, 1, 2, ..:
+# a target and a set, or only a target, or None if there is no step. Then the verdict of `synth`.
 EXAMPLES = {
     "spot-implicit": ("1", "2 Fin(1) & Inf(0)", [[(0, 0), (1, 0), (0, 0), (1, 0)], [(0, 1), (1, 1), (0, 0), (1, 0)]], "REALIZABLE"),
     "spot-state-labels": ("0", "0 t", [[1, None], [None, 0]], "REALIZABLE"),
@@ -83,7 +83,7 @@ def header(text, name):
 
 
 def examples():
-    """(what is checked, what came out, what has to) for each example."""
+    """(what is checked, result, wanted result) for each example."""
     for name, (controllable, condition, steps, _) in EXAMPLES.items():
         text = (TOP / f"examples/{name}.hoa").read_bytes()
         status, made, told = rewritten(text, "--outs", "grant")
@@ -92,11 +92,11 @@ def examples():
         yield (f"{name}: its headers", (made.partition("\n")[0], header(made, "controllable-AP"), header(made, "Acceptance")),
                ("HOA: v1", controllable, condition))
         yield f"{name}: without --outs", header(rewritten(text)[1], "controllable-AP"), None
-        yield f"{name}: what was made, made anew", rewritten(made.encode())[1], made
+        yield f"{name}: the result, rewritten again", rewritten(made.encode())[1], made
 
 
 def random_label(dice, count, depth):
-    """A label over so many propositions, and over the aliases @0 and @1, which are propositions 0 and 1."""
+    """A label over `count` propositions, and over the aliases @0 and @1, which are propositions 0 and 1."""
     kind = dice.randrange(6 if depth else 2)
     if kind < 2:
         number = dice.randrange(count)
@@ -110,7 +110,7 @@ def random_label(dice, count, depth):
 
 
 def labels():
-    """The same for labels at random: each has the letters that Python says it has."""
+    """The same for random labels: each has the letters that Python says it has."""
     dice = random.Random(1)
     for count in (1, 2, 3, 4) * 10:
         label = random_label(dice, max(count, 2), 3)
@@ -123,7 +123,7 @@ def labels():
 
 
 def automata():
-    """The same for automata at random, with a label on each edge and, where they are complete, without."""
+    """The same for random automata, with a label on each edge and, if they are complete, without."""
     dice = random.Random(1)
     for number in range(20):
         a = controllers.random_automaton(dice)
@@ -137,7 +137,7 @@ def automata():
 
 
 def refusals():
-    """The same for what is refused, and conditions that are of a shape or not."""
+    """The same for texts that are refused, and conditions that are of a shape or not."""
     for text, told in REFUSED.items():
         status, made, said = rewritten(text)
         yield text, (status, made != "", said), (1, False, f"hoa: standard input: {told}\n") if told else (0, True, "")
@@ -173,7 +173,7 @@ def in_little_memory():
 
 
 def answers(program):
-    """The same for what a program says of each example."""
+    """The same for a program's verdict on each example."""
     for name, (_, _, _, wanted) in EXAMPLES.items():
         made = rewritten((TOP / f"examples/{name}.hoa").read_bytes(), "--outs", "grant")[1]
         ran = subprocess.run([program, "synth"], input=made.encode(), capture_output=True, timeout=60)

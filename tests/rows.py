@@ -4,27 +4,27 @@ A row has
 
     name       what it shows
     args       the words after the program's name; {program} stands for the program's own path, {top} for the repository's
-    args_hex   the same as hexadecimal bytes, for words that are no text
+    args_hex   the same as hexadecimal bytes, for words that aren't text
     stdin      the input (or stdin_hex, or stdin_file: a file of the repository)
-    blanks     how many blanks stand before the input; absent: none
+    blanks     the number of blanks before the input; absent: none
     stdout     the whole output (or stdout_file); absent: nothing
-    stdout_has a text that the output has somewhere, in place of the whole
-    stdout_is  a regular expression that the whole output has to match
+    stdout_has a text that the output contains, instead of the whole output
+    stdout_is  a regular expression that the whole output must match
     stderr     the whole error stream; absent: anything
-    fault      the error stream but for its notes
-    stderr_is  a regular expression that the whole error stream has to match
+    fault      the error stream without its notes
+    stderr_is  a regular expression that the whole error stream must match
     status     the exit status; absent: 0
-    output_to  where the output goes in place of a pipe: a path, or "closed"
+    output_to  where the output goes instead of a pipe: a path, or "closed"
 
-A table has many inputs of one answer, each of which is a row:
+A table has many inputs with the same answer, each of which is a row:
 
     name, args as in a row
-    head, tail what stands before each text, and behind it; absent: nothing
-    texts      the texts. A mark `^` is a place in the text, which is without it
-    told       the line on the error stream, behind `parsolve: `, with status 1 and no output; `{at}` is the place of the mark, in
-               bytes from the beginning of the input, or behind its line `--`. Notes may follow it
-    has        in place of `told`: a text that the output has somewhere, with status 0
-    words      in place of the texts: command lines that aren't understood, with status 2 and no output
+    head, tail the input before each text, and after it; absent: nothing
+    texts      the texts. A mark `^` shows a place in the text, and isn't part of it
+    told       the line on the error stream, after `parsolve: `, with status 1 and no output; `{at}` is the place of the mark, in
+               bytes from the beginning of the input, or after its line `--`. Notes may follow it
+    has        instead of `told`: a text that the output contains, with status 0
+    words      instead of the texts: command lines that aren't understood, with status 2 and no output
 """
 import glob
 import os
@@ -57,7 +57,7 @@ def words_of(row, program):
 
 
 def run_row(program, row):
-    """(status, output, error stream) of the program on a row; the output is None where it isn't kept."""
+    """(status, output, error stream) of the program on a row; the output is None if it isn't kept."""
     command = [program, *words_of(row, program)]
     where = row.get("output_to")
     if where is None:
@@ -104,14 +104,14 @@ def failure(program, row):
     if "stderr" in row and errors != row["stderr"].encode():
         return f"error stream {errors[:300]!r}, wanted {row['stderr']!r}"
     if "fault" in row and case.without_notes(errors) != row["fault"].encode():
-        return f"error stream {errors[:300]!r}, wanted {row['fault']!r} but for notes"
+        return f"error stream {errors[:300]!r}, wanted {row['fault']!r} without notes"
     if "stderr_is" in row and not re.fullmatch(row["stderr_is"].encode(), errors):
         return f"error stream {errors[:300]!r}, wanted one like {row['stderr_is']!r}"
     return None
 
 
 def of_file(path):
-    """The test of a file of rows: each on the program, and on that of the second compiler where it is there."""
+    """The test of a file of rows: each on the program, and on that of the second compiler if there is one."""
     def run(program):
         with open(path, "rb") as file:
             found = tomllib.load(file)

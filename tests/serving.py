@@ -1,5 +1,5 @@
 """Frames that are sent to a worker program over a connection, with the reply to them and how the program ends. All bytes were worked out by
-hand, for the game `parity 1; 0 1 0 0; 1 3 0 0;` where no other is named."""
+hand, for the game `parity 1; 0 1 0 0; 1 3 0 0;` if no other is named."""
 import socket
 import struct
 import subprocess
@@ -59,7 +59,7 @@ QUIET = bytes.fromhex("00000003 05 01 00")
 
 
 def exchange(program, sent):
-    """What a worker program replies to these bytes and no more, its status and its error stream."""
+    """The reply of a worker program to these bytes and no more, its status and its error stream."""
     with socket.create_server(("127.0.0.1", 0)) as server:
         server.settimeout(LIMIT)
         worker = subprocess.Popen([program, "worker", "--port", str(server.getsockname()[1])], stdin=subprocess.DEVNULL,
@@ -78,7 +78,7 @@ def exchange(program, sent):
 
 
 def short_exchanges():
-    """(what is sent, the reply, the number of the fault that the program tells, if it tells one)."""
+    """(what is sent, the reply, the number of the fault that the program reports, if any)."""
     for setup, go, reply in TURNS:
         yield [setup, LINES, go, HALT], reply, None
     for *frames, reply in OUT_OF_TURN:
@@ -101,7 +101,7 @@ def lines(first, end, priority, successor):
 
 
 def wide_set_up(vertices, bounds):
-    """The set-up of version 1, where the bounds are one for each odd priority below twice `bounds`."""
+    """The set-up of version 1, whose bounds are one for each odd priority below twice `bounds`."""
     pairs = b"".join(struct.pack(">II", 2 * half + 1, 1) for half in reversed(range(bounds)))
     return frame(1, struct.pack(">BII", 1, vertices, bounds) + pairs)
 
@@ -121,7 +121,7 @@ def long_exchanges():
 
 
 def check(program):
-    """Why a worker program doesn't reply or end as it has to, or None."""
+    """Why a worker program doesn't reply or end as it must, or None."""
     short = ((bytes.fromhex("".join(parts)), bytes.fromhex(reply), fault) for parts, reply, fault in short_exchanges())
     for sent, reply, fault in [*short, *((sent, reply, None) for sent, reply in long_exchanges())]:
         wanted = (reply, 0, "") if fault is None else (reply, 1, f"parsolve: worker fault {fault}\n")

@@ -1,6 +1,6 @@
-"""Runs the sessions that the pages show: a command behind `$`, and below it what it prints.
+"""Runs the sessions that the pages show: a command after `$`, and below it what it prints.
 The sessions of a page run one after the other in a folder of their own, in which the repository's files and folders are linked,
-so that a session may read what an earlier one wrote. A command that wants a tool of TOOLS is left out where that isn't installed.
+so that a session can read what an earlier one wrote. A command that needs a tool of TOOLS is left out if that isn't installed.
 """
 import pathlib
 import re
@@ -12,7 +12,7 @@ import case
 from case import TOP
 
 PAGES = ["README.md", "docs/commands.md", "docs/specifications.md"]
-TOOLS = {"berkeley-abc": r"berkeley-abc|small", "dot": r"\.svg", "yosys": r"yosys"}  # and which commands want them
+TOOLS = {"berkeley-abc": r"berkeley-abc|small", "dot": r"\.svg", "yosys": r"yosys"}  # and the commands that need them
 
 
 def sessions(page):
@@ -22,7 +22,7 @@ def sessions(page):
 
 
 def missing(command):
-    """Why the command is left out for the tools that it wants, or None."""
+    """Why the command is left out for the tools that it needs, or None."""
     return case.lacking(*(tool for tool, words in TOOLS.items() if re.search(words, command)))
 
 

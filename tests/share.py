@@ -1,5 +1,5 @@
 """Checks share/: the manual page and the completions are those that tools/share makes of the program's help texts, and the tools
-that read them, where they are installed, find no fault in them."""
+that read them, if they are installed, find no fault in them."""
 import pathlib
 import shutil
 import subprocess
@@ -12,14 +12,14 @@ from case import TOP
 SHARE = TOP / "share"
 BASH = SHARE / "bash-completion/completions/parsolve"
 FISH = SHARE / "fish/vendor_completions.d/parsolve.fish"
-READERS = [  # each has to read its file without a word
+READERS = [  # each must read its file and print nothing
     ["bash", "-n", BASH],
     ["zsh", "-n", SHARE / "zsh/site-functions/_parsolve"],
     ["fish", "-n", FISH],
     ["groff", "-man", "-Tutf8", "-ww", "-z", SHARE / "man/man1/parsolve.1"],
 ]
 COMMANDS = ["automaton", "check", "game", "means", "measure", "replay", "solve", "synth", "verify", "worker"]
-# words that were typed, the last of which is to be completed, and what has to be offered
+# words that were typed, the last of which is completed, and what must be offered
 TYPED = [(["parsolve", ""], [*COMMANDS, "--help", "--version", "-h", "-V"]), (["parsolve", "s"], ["solve", "synth"]),
          (["parsolve", "me"], ["means", "measure"]), (["parsolve", "means", "--"], ["--status", "--stats", "--json", "--help"]),
          (["parsolve", "automaton", "--"], ["--outs", "--stats", "--json", "--help"]),
@@ -40,11 +40,11 @@ def made(program):
             if path.is_file():
                 kept = SHARE / path.relative_to(folder)
                 is_same = kept.exists() and kept.read_text() == path.read_text()
-                yield f"share/{path.relative_to(folder)}", None if is_same else "tools/share makes it anew"
+                yield f"share/{path.relative_to(folder)}", None if is_same else "tools/share makes it again"
 
 
 def read():
-    """(what is checked, what came out, what has to) for each tool that reads one of them."""
+    """(what is checked, result, wanted result) for each tool that reads one of them."""
     for words in READERS:
         if case.lacking(words[0]):
             yield f"{words[0]} reads {words[-1].name}", case.lacking(words[0])
@@ -54,7 +54,7 @@ def read():
 
 
 def completed():
-    """The same for what bash and fish offer, fish where it is installed."""
+    """The same for what bash and fish offer, fish if it is installed."""
     for typed, wanted in TYPED:
         script = 'source "$1"; shift; COMP_WORDS=("$@"); COMP_CWORD=$(($# - 1)); _parsolve; printf "%s\\n" "${COMPREPLY[@]}"'
         ran = subprocess.run(["bash", "-c", script, "bash", BASH, *typed], cwd=TOP, capture_output=True, text=True, timeout=60)

@@ -1,7 +1,7 @@
-"""Checks tools/circuit: runs of circuits, beside automata too, and the binary form.
+"""Checks tools/circuit: runs of circuits, also beside automata, and the binary form.
 
-What is expected was worked out by hand, and for circuits and automata at random it is what a plain reader of circuits does and what
-a look at every pair of steps finds."""
+The expected results were worked out by hand. For random circuits and automata they are those of a plain reader of circuits and of a look
+at every pair of steps."""
 import os
 import pathlib
 import random
@@ -22,7 +22,7 @@ DELAY_BINARY = b"aig 2 1 1 1 0\n2\n4\ni0 request\no0 grant\n"
 HEAD = "step: inputs (request) | outputs (grant)"
 WORD = "request\n\nrequest\nrequest\n"
 DELAYED = f"{HEAD}\n0: request | -\n1: - | grant\n2: request | -\n3: request | grant\n"
-# the grant, and not the request, of the step before: so the run of request-grant.hoa meets set 1 where a request was
+# the output is the negated input of the step before: so the run of request-grant.hoa meets set 1 after a request
 NEGATED = DELAY.replace("4\ni0", "5\ni0")
 REJECTED = HEAD + """ | state {sets}
 0: request | grant | 1 {0}
@@ -36,13 +36,13 @@ ENDED = HEAD + """ | state {sets}
 2: request | grant | ended
 3: request | - | ended
 """
-# two inputs whose names are odd, and three gates, the last 128 * 2 and more above what it uses
+# two inputs with unusual names, and three gates, the last 128 * 2 and more above what it uses
 WIDE = ("aag 133 130 0 2 3\n" + "".join(f"{2 * it}\n" for it in range(1, 131)) + "266\n1\n262 3 2\n264 262 5\n266 6 6\n"
         + "i0 a b\ni1 t\no0 \u00e9\n")
 WIDE_BINARY = ("aig 133 130 0 2 3\n266\n1\n".encode() + bytes([0x83, 0x02, 1, 2, 0x81, 0x02, 0x84, 0x02, 0])
                + "i0 a b\ni1 t\no0 \u00e9\n".encode())
-# what a program prints that is asked for the answer, the game and the solution of an automaton, by its name; the game and the solution
-# of `never` were worked out by hand: the environment never asks, so that the set is never met
+# a stand-in for the program, which prints the files answer, game and solution; and the game and the solution of each automaton, by its name.
+# Those of `never` were worked out by hand: the environment never asks, so that the set is never met
 NEVER = """HOA: v1 Start: 0 AP: 2 "request" "grant" controllable-AP: 1 Acceptance: 1 Inf(0)
 --BODY-- State: 0 [0&1] 0 {0} [!0 | !1] 0 --END--
 """
@@ -108,7 +108,7 @@ def example(name):
 
 
 def by_hand():
-    """(what is checked, what came out, what has to) for each run and form by hand."""
+    """(what is checked, result, wanted result) for each run and form by hand."""
     yield "a run", simulated(DELAY, WORD), (0, DELAYED, "")
     yield "behind REALIZABLE", simulated("REALIZABLE\n" + DELAY, WORD), (0, DELAYED, "")
     yield "a rejecting loop", simulated(NEGATED, WORD, example("request-grant")), (0, REJECTED, "")
@@ -156,14 +156,14 @@ def waves_of(text):
     for part in re.split(r"^#", body, flags=re.M)[1:]:
         time, *changes = part.split()
         if int(time) != len(steps):
-            return f"time {time} behind {len(steps)} steps"
+            return f"time {time} after {len(steps)} steps"
         now = {**now, **{names[change[1:]]: change[0] for change in changes}}
         steps.append(now)
     return steps[:-1]
 
 
 def drawn_inputs():
-    """The same for inputs that are drawn, and waves: the lines are those that the same inputs give, and the waves have what they say."""
+    """The same for random inputs, and waves: the lines are those that the same inputs give, and the waves have the values of the lines."""
     for circuit, names in ((DELAY, {"request": "request", "grant": "grant"}), (WIDE, {"a b": "'a b'", "t": "t", "o1": "o1"})):
         with tempfile.TemporaryDirectory() as folder:
             pathlib.Path(folder, "circuit").write_text(circuit)
@@ -173,14 +173,14 @@ def drawn_inputs():
         lines = ran[0].stdout.decode().splitlines()[1:]
         word = "".join(line.partition(": ")[2].partition(" |")[0].replace("-", "", line.count(": -")) + "\n" for line in lines)
         yield "drawn twice", (ran[0].returncode, ran[0].stdout, len(lines)), (0, ran[1].stdout, 20)
-        yield "drawn, and given", simulated(circuit, word)[1].splitlines()[1:], lines
+        yield "random, and given", simulated(circuit, word)[1].splitlines()[1:], lines
         held = [shlex.split(line.partition(": ")[2]) for line in lines]
         for name in names:
             wanted = [str(int(name in those)) for those in held]
             yield f"the waves of {name}", [step[name.replace(" ", "_")] for step in waves], wanted
 
 
-# a stand-in for ABC: it says this of the circuits, and its circuit is the one in the file
+# a stand-in for ABC: it prints SAID about the circuits, and its circuit is the one in the file SMALL
 ABC = """#!/bin/sh
 case $2 in *write_aiger*) if [ -e "$SMALL" ]; then cp "$SMALL" small.aig; fi ;; *) echo "$SAID" ;; esac
 """
@@ -207,7 +207,7 @@ MADE_SMALL = {
 
 
 def made_small(small, said, words):
-    """(status, output, error stream) of the tool with the stand-in; without a circuit it isn't there."""
+    """(status, output, error stream) of the tool with the stand-in, which writes no circuit if `small` is None."""
     with tempfile.TemporaryDirectory() as made:
         folder = pathlib.Path(made)
         (folder / "circuit").write_text(LONG)
@@ -224,7 +224,7 @@ def made_small(small, said, words):
 
 
 def made_smaller():
-    """The same for circuits that ABC makes small, by a stand-in for it, and where there is none."""
+    """The same for circuits that ABC makes small, by a stand-in for it, and without ABC."""
     for what, (small, said, words, wanted) in MADE_SMALL.items():
         yield f"small: {what}", made_small(small, said, words), wanted
     with tempfile.TemporaryDirectory() as folder:
@@ -235,7 +235,7 @@ def made_smaller():
 
 
 def refusals():
-    """The same for what is refused."""
+    """The same for texts that are refused."""
     for text, told in REFUSED.items():
         for command in ("simulate", "binary", "ascii"):
             yield text, used(command, text), (1, b"", f"circuit: circuit: {told}\n")
@@ -266,7 +266,7 @@ def random_circuit(dice, names, own):
 
 
 def lines_of(a, text, letters):
-    """The lines that have to be written for a circuit beside an automaton: loops are found by a look at every pair of steps."""
+    """The lines that must be written for a circuit beside an automaton: loops are found by a look at every pair of steps."""
     circuit, bits, state, met, places, lines = controllers.Circuit(text), 0, 0, [], [(0, 0)], []
     names = [f"p{place}" for place in range(len(a.controllable))]
 
@@ -292,7 +292,7 @@ def lines_of(a, text, letters):
 
 
 def at_random():
-    """The same for circuits and automata at random."""
+    """The same for random circuits and automata."""
     dice = random.Random(1)
     for number in range(60):
         a = controllers.random_automaton(dice)

@@ -1,7 +1,7 @@
-"""`verify` beside a plain product: circuits of `synth`, as they are printed and with one literal changed, are judged as by a search for a
-run that ends or is rejected, and each counterexample is run. Circuits of ABC, of other forms and with other names are read, and what is no
-circuit for the automaton is refused by name. What `synth --small` prints is accepted, and no larger. With `--environment` random circuits
-are judged as by a search for a run that is accepted."""
+"""Compares `verify` with a plain product: circuits of `synth`, as they are printed and with one literal changed, are judged as by a search for a
+run that ends or is rejected, and each counterexample is run. Circuits of ABC, in other forms and with other names are read, and
+what isn't a circuit for the automaton is refused by name. The circuits of `synth --small` are accepted, and no larger. With
+`--environment` random circuits are judged as by a search for a run that is accepted."""
 import itertools
 import random
 import re
@@ -26,7 +26,7 @@ WIRE = b"aag 1 1 0 1 0\n2\n2\ni0 r\no0 g\n"
 
 
 def asked(program, automaton, circuit, *words):
-    """What `verify` answers of the texts of two files: (status, output, error stream)."""
+    """The answer of `verify` on the texts of two files: (status, output, error stream)."""
     with tempfile.TemporaryDirectory() as folder:
         for name, text in (("automaton", automaton), ("circuit", circuit)):
             with open(f"{folder}/{name}", "wb") as file:
@@ -36,7 +36,7 @@ def asked(program, automaton, circuit, *words):
 
 
 def refused(program, automaton, circuit):
-    """The same without the notes behind a fault."""
+    """The same without the notes after a fault."""
     status, output, errors = asked(program, automaton, circuit)
     return status, output, case.without_notes(errors)
 
@@ -52,8 +52,8 @@ def word_of(lines):
 
 
 def after(a, circuit, place, letters, is_environment=False):
-    """Where the circuit and the automaton are after these input letters, and the sets that were met; None where the run has ended. The inputs
-    of a circuit that plays the environment are what the controller sets."""
+    """Where the circuit and the automaton are after these input letters, and the sets that were met; None if the run has ended. The inputs
+    of a circuit that plays the environment are the controller's propositions."""
     met = set()
     for letter in letters:
         bits, state = place
@@ -67,7 +67,7 @@ def after(a, circuit, place, letters, is_environment=False):
 
 
 def recurring(a, circuit, stem, loop, is_environment=False):
-    """The sets that recur where the loop goes round and round behind the stem; None where the run ends."""
+    """The sets that recur if the loop follows the stem again and again; None if the run ends."""
     begun = after(a, circuit, (0, 0), stem, is_environment)
     if begun is None:
         return None
@@ -85,7 +85,7 @@ def is_accepting(a, sets):
 
 
 def refutes(a, circuit, verdict):
-    """Whether the run on the inputs of a counterexample is what it says."""
+    """Whether the run on the inputs of a counterexample is as it says."""
     kind, *lines = verdict.decode().splitlines()
     stem, loop = word_of(lines)
     if any(len(line) != len(circuit.inputs) for line in lines if line != LOOP):
@@ -122,7 +122,7 @@ def why_misjudged(program, a, text):
 
 
 def random_circuits(program, count=60):
-    """(automaton, text of the circuit that `synth` prints for it) of random automata, each with an input, an output or a latch."""
+    """(automaton, text of the circuit that `synth` prints for it) for random automata, each with an input, an output or a latch."""
     dice = random.Random(5)
     while count:
         a = controllers.random_automaton(dice)
@@ -151,7 +151,7 @@ def parts_of(text):
 
 
 def small(program, automaton):
-    """What `synth --small` answers: the first line, and the text of the circuit."""
+    """The answer of `synth --small`: the first line, and the text of the circuit."""
     ran = subprocess.run([program, "synth", "--small"], input=automaton, capture_output=True, timeout=120)
     line, _, text = ran.stdout.decode().partition("\n")
     return line, text
@@ -173,7 +173,7 @@ def plain_of(text):
 
 
 def why_not_small(program, a, automaton, plain):
-    """Why `synth --small` has no answer as it has to be where `synth` prints a circuit, or None; and the text of its circuit."""
+    """Why the answer of `synth --small` is wrong for an automaton for which `synth` prints a circuit, or None; and the text of its circuit."""
     line, text = small(program, automaton)
     if line != "REALIZABLE":
         return f"{automaton!r}: {line}", text
@@ -185,8 +185,8 @@ def why_not_small(program, a, automaton, plain):
 
 
 def kept_automata():
-    """The automata of the examples and of the rows of `synth` that name the controller's propositions, each with its name. What tools don't
-    read is left out."""
+    """The automata of the examples and of the rows of `synth` that name the controller's propositions, each with its name. Those that the
+    tools don't read are left out."""
     found = [(path.name, path.read_bytes()) for path in sorted((TOP / "examples").glob("*.hoa"))]
     for row in tomllib.loads((TOP / "rows/synth.toml").read_text())["row"]:
         if row.get("args") == ["synth"] and row.get("status", 0) == 0:
@@ -215,7 +215,7 @@ def small_circuits(program):
 
 
 def forms(program):
-    """Circuits in the binary form, with gates in another order, and with the line `REALIZABLE` ahead are read as well."""
+    """Circuits in the binary form, with gates in another order, and after the line `REALIZABLE` are read as well."""
     for name in ("arbiter", "lift", "traffic-light", "delay", "request-grant"):
         automaton = (TOP / f"examples/{name}.hoa").read_bytes()
         answer = subprocess.run([program, "synth"], input=automaton, capture_output=True, timeout=60).stdout
@@ -229,7 +229,7 @@ def forms(program):
 
 
 def names(program):
-    """Inputs and outputs go by their names, whatever their order, and by their places only where that is asked for."""
+    """Inputs and outputs are taken by their names, whatever their order, and by their places only if that is asked for."""
     two = AUTOMATON.replace(b'AP: 2 "r" "g"', b'AP: 3 "r" "g" "s"')
     crossed = b"aag 2 2 0 1 0\n2\n4\n4\ni0 s\ni1 r\no0 g\n"
     yield "names in another order", asked(program, two, crossed), (0, b"ACCEPTED\n", b"")
@@ -244,7 +244,7 @@ def random_environment(dice, a):
     outs = [i for i, own in enumerate(a.controllable) if not own]
     first = 1 + len(ins)  # the variable of the first latch
     latches, gates = [first, first + 1], range(first + 2, first + 6)
-    known = [0, *latches]  # what outputs may depend on
+    known = [0, *latches]  # what outputs can depend on
     rows = []
     for place, gate in enumerate(gates):
         among = known if place < 2 else [*range(gate)]
@@ -258,7 +258,7 @@ def random_environment(dice, a):
 
 
 def is_answered(a, circuit):
-    """Whether the automaton accepts a run of a circuit that plays the environment: whether a cycle is accepted of whatever sets it meets."""
+    """Whether the automaton accepts a run of a circuit that plays the environment: whether some cycle is accepted, whatever sets it meets."""
     edges, waiting, seen = [], [(0, 0)], set()
     while waiting:
         here = waiting.pop()
@@ -281,7 +281,7 @@ def is_answered(a, circuit):
 
 
 def environments(program):
-    """A circuit that plays the environment refutes exactly if no run of it is accepted; else the controller's letters make one that is."""
+    """A circuit that plays the environment refutes exactly if no run of it is accepted; otherwise the controller's letters make one that is."""
     dice, why, answered, refuted = random.Random(8), None, 0, 0
     for _ in range(200):
         a = controllers.random_automaton(dice)
@@ -314,8 +314,8 @@ def hears(circuit):
 
 
 def counters(program):
-    """Where there is no controller, `synth --counter` prints a circuit that plays the environment: no output depends on an input of the same
-    step, and no run of it is accepted, by a search for one and by `verify --environment`. Else it prints what `synth` does."""
+    """If there is no controller, `synth --counter` prints a circuit that plays the environment: no output depends on an input of the same
+    step, and no run of it is accepted, by a search for one and by `verify --environment`. Otherwise it prints what `synth` does."""
     dice, why, refuted = random.Random(9), None, 0
     for _ in range(150):
         a = controllers.random_automaton(dice)
@@ -338,11 +338,14 @@ REFUSED = {
     "no names": (b"aag 1 1 0 1 0\n2\n2\n", "the inputs and outputs have no names; --by-place takes them in order"),
     "an input that isn't there": (b"aag 0 0 0 1 0\n0\no0 g\n", "the circuit has no input named r"),
     "an output that isn't there": (b"aag 1 1 0 0 0\n2\ni0 r\n", "the circuit has no output named g"),
-    "an input more": (b"aag 2 2 0 1 0\n2\n4\n2\ni0 r\ni1 tick\no0 g\n", "the circuit has an input more: input 1, named tick"),
-    "an output more": (b"aag 1 1 0 2 0\n2\n2\n3\ni0 r\no0 g\no1 h\n", "the circuit has an output more: output 1, named h"),
+    "an input more": (b"aag 2 2 0 1 0\n2\n4\n2\ni0 r\ni1 tick\no0 g\n", "input 1 is named tick, but the automaton has no such input"),
+    "an output more": (b"aag 1 1 0 2 0\n2\n2\n3\ni0 r\no0 g\no1 h\n", "output 1 is named h, but the automaton has no such output"),
+    "a second name": (b"aag 1 1 0 1 0\n2\n2\ni0 r\ni0 spare\no0 g\n", "input 0 is named spare, but the automaton has no such input"),
+    "a second name of an output": (b"aag 1 1 0 1 0\n2\n2\no0 spare\ni0 r\no0 g\n", "output 0 is named spare, but the automaton has no such output"),
+    "the name of an output at an input": (b"aag 1 1 0 1 0\n2\n2\ni0 r\ni0 g\no0 g\n", "input 0 is named g, but the automaton has no such input"),
     "an input without a name": (b"aag 2 2 0 1 0\n2\n4\n2\ni0 r\no0 g\n", "input 1 has no symbol"),
-    "a name that isn't UTF-8": (b"aag 2 2 0 1 0\n2\n4\n2\ni0 r\ni1 gr\xf6\\e\no0 g\n", "the circuit has an input more: input 1, named gr\\xf6\\\\e"),
-    "a name in UTF-8": (b"aag 2 2 0 1 0\n2\n4\n2\ni0 r\ni1 \xc3\xb6\xe2\x82\xac\no0 g\n", "the circuit has an input more: input 1, named \u00f6\u20ac"),
+    "a name that isn't UTF-8": (b"aag 2 2 0 1 0\n2\n4\n2\ni0 r\ni1 gr\xf6\\e\no0 g\n", "input 1 is named gr\\xf6\\\\e, but the automaton has no such input"),
+    "a name in UTF-8": (b"aag 2 2 0 1 0\n2\n4\n2\ni0 r\ni1 \xc3\xb6\xe2\x82\xac\no0 g\n", "input 1 is named \u00f6\u20ac, but the automaton has no such input"),
     "a circuit with nothing in it": (b"aag 0 0 0 0 0\n", "the circuit has no input named r"),
     "a name twice": (b"aag 2 2 0 1 0\n2\n4\n2\ni0 r\ni1 r\no0 g\n", "two inputs are named r"),
     "a latch that starts at 1": (b"aag 2 1 1 1 0\n2\n4 2 1\n4\ni0 r\no0 g\n", "latch 0 does not start at 0"),
@@ -373,7 +376,7 @@ def counter(modulus, bits=16):
 
 
 def limits(program):
-    """A circuit that comes to 65,535 states is judged, and one that comes to a state more is too large; that it might is no matter."""
+    """A circuit that reaches 65,535 states is judged, and one that reaches a state more is too large; that it might doesn't matter."""
     automaton = b'HOA: v1\nStart: 0\nAP: 1 "g"\ncontrollable-AP: 0\nAcceptance: 0 t\n--BODY--\nState: 0\n[t] 0\n--END--\n'
     yield "65,535 states", asked(program, automaton, counter(65_535).encode()), (0, b"ACCEPTED\n", b"")
     yield "65,536 states", refused(program, automaton, counter(65_536).encode()), (1, b"", b"parsolve: circuit and automaton too large together\n")
@@ -381,7 +384,7 @@ def limits(program):
 
 
 def refusals(program):
-    """What is no circuit for the automaton is refused by one line, with status 1 and no output."""
+    """What isn't a circuit for the automaton is refused with one line, with status 1 and no output."""
     for name, (circuit, told) in REFUSED.items():
         yield name, refused(program, AUTOMATON, circuit), (1, b"", f"parsolve: {told}\n".encode())
     status, output, errors = asked(program, AUTOMATON, b"aag 3 1 0 1 2\n2\n4\n4 6 2\n6 4 2\ni0 r\no0 g\n")

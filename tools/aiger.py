@@ -5,19 +5,19 @@ from typing import NamedTuple
 from texts import Fault
 
 MOST_INPUTS = 1 << 20  # the binary form has no line for an input
-MOST_BYTES = 10  # that a number of the binary form may have
+MOST_BYTES = 10  # that a number of the binary form can have
 
 
 class Circuit(NamedTuple):
     inputs: list  # literals; so are all others
-    latches: list  # (latch, what it takes over)
+    latches: list  # (latch, the literal that it takes over)
     outputs: list
-    gates: list  # (gate, greater operand, lesser operand), each behind those that it uses
+    gates: list  # (gate, greater operand, lesser operand), each after those that it uses
     names: dict  # by `i0`, `i1`, .. and `o0`, ..
 
 
 def numbers_of(line, count, number):
-    """The numbers of a line that has to have so many."""
+    """The numbers of a line, which must have `count` of them."""
     words = line.split(b" ")
     if len(words) != count or not all(re.fullmatch(rb"\d{1,10}", word) for word in words):
         raise Fault(f"line {number} is damaged")
@@ -25,7 +25,7 @@ def numbers_of(line, count, number):
 
 
 def names_of(symbols):
-    """The names that the lines behind a circuit give, up to its comments."""
+    """The names that the lines after a circuit give, up to its comments."""
     lines = symbols[:symbols.index(b"c")] if b"c" in symbols else symbols
     return dict(line.decode("utf-8", "surrogateescape").split(" ", 1) for line in lines if b" " in line)
 
@@ -44,7 +44,7 @@ def read_ascii(text):
 
 
 def in_order(gates, known):
-    """The gates, each behind those that it uses, where these literals are known before."""
+    """The gates, each after those that it uses, if these literals are known before."""
     made, order, by = {*known}, [], {gate: (left, right) for gate, left, right in gates}
     if len(by) < len(gates) or made & {*by}:
         raise Fault("it defines a variable twice")
@@ -66,7 +66,7 @@ def in_order(gates, known):
 
 
 def numbered(circuit):
-    """The same circuit with its variables in order: inputs, latches, gates, each behind those that it uses."""
+    """The same circuit with its variables in order: inputs, latches, gates, each after those that it uses."""
     sources = [0, *circuit.inputs, *(it for it, _ in circuit.latches)]
     gates = in_order(circuit.gates, sources)
     if len({*sources}) < len(sources) or any(it & 1 for it in [*sources, *(it for it, _, _ in gates)]):
@@ -116,7 +116,7 @@ def read_binary(text):
 
 
 def read_circuit(text):
-    """A circuit in either form; its variables are put in order: inputs, latches, gates, each behind those that it uses."""
+    """A circuit in either form; its variables are put in order: inputs, latches, gates, each after those that it uses."""
     text = text[len(b"REALIZABLE\n"):] if text.startswith(b"REALIZABLE\n") else text
     if not text.startswith((b"aag ", b"aig ")):
         raise Fault("it begins neither with aag nor with aig")

@@ -1,8 +1,8 @@
-"""Automata as tools/hoa and tools/circuit read them: deterministic, with a parity condition, in HOA v1 or v1.1. Forms are read that
-`parsolve` doesn't read: aliases, labels on states, implicit labels, headers whose names have dots.
+"""Automata as tools/hoa and tools/circuit read them: deterministic, with a parity condition, in HOA v1 or v1.1. They also read
+forms that `parsolve` doesn't read: aliases, labels on states, implicit labels, headers whose names have dots.
 
-Letter L is the one in which just the propositions hold whose bits are set in L. A set of letters is a number whose bit L says
-whether it has letter L, so `&` and `|` of Python are those of labels.
+In letter L just those propositions hold whose bits are set in L. A set of letters is a number whose bit L says whether it has
+letter L, so Python's `&` and `|` are those of labels.
 """
 import functools
 import re
@@ -24,9 +24,9 @@ class State(NamedTuple):
 
 class Shape(NamedTuple):
     """Which runs a parity condition accepts: by the greatest or the least of the sets that recur."""
-    foremost: object  # `max` or `min`, or None where there are no sets
+    foremost: object  # `max` or `min`, or None if there are no sets
     parity: int  # of the sets that are good, 0 or 1
-    accepts_none: bool  # whether a run is accepted on which no set recurs
+    accepts_none: bool  # whether a run on which no set recurs is accepted
 
     def counting(self, sets):
         """The one of these sets that counts, or None."""
@@ -37,11 +37,11 @@ class Shape(NamedTuple):
 
 
 class Automaton(NamedTuple):
-    headers: dict  # the values of those that say nothing of its meaning, as bytes
+    headers: dict  # the values of those that don't affect its meaning, as bytes
     count: int
     start: int
     propositions: list  # strings with their quotes
-    controllable: object  # a list of numbers, or None where there is no such header
+    controllable: object  # a list of numbers, or None if there is no such header
     sets: int
     condition: bytes
     shape: Shape
@@ -52,7 +52,7 @@ class Automaton(NamedTuple):
         return [content_of(it).decode("utf-8", "surrogateescape") for it in self.propositions]
 
     def step(self, state, letter):
-        """The target and the sets of the step from a state by a letter; None where there is none."""
+        """The target and the sets of the step from a state by a letter; None if there is none."""
         here = self.states.get(state)
         for (target, sets), letters in here.edges.items() if here else ():
             if letters >> letter & 1:
@@ -67,13 +67,13 @@ def all_letters(count):
 
 @functools.lru_cache(None)
 def letters_with(proposition, count):
-    """The letters over so many propositions in which this one holds: a block of 2^proposition without it, one with it, and so on."""
+    """The letters over `count` propositions in which this one holds: a block of 2^proposition without it, one with it, and so on."""
     block = 1 << proposition
     return all_letters(count) // ((1 << 2 * block) - 1) * (((1 << block) - 1) << block)
 
 
 def label_of(letters, names, first=0):
-    """A label of just these letters over such propositions; propositions before `first` make no difference to it."""
+    """A label of just these letters over propositions of these names; those before `first` make no difference to it."""
     every = all_letters(len(names))
     if letters in (0, every):
         return "t" if letters else "f"
@@ -94,8 +94,8 @@ def label_of(letters, names, first=0):
 
 
 def read_formula(tokens, read_atom, join, negate=None):
-    """What a formula means, where it is said what its atoms, `&`, `|` and, if it may stand there, `!` mean. `!` binds tightest,
-    then `&`."""
+    """The meaning of a formula, given how to read its atoms, to join by `&` and `|` and, if `!` is allowed, to negate. `!` binds
+    tightest, then `&`."""
     values, waiting, depth = [], [], 0
 
     def settle(*marks):
@@ -142,7 +142,7 @@ def read_condition(tokens, sets):
 
 
 def is_of_shape(tree, numbers, parity):
-    """Whether a condition is the one over these sets, the foremost first, by which the sets of this parity are good."""
+    """Whether a condition is the one over these sets, the foremost first, for which the sets of this parity are good."""
     for place, number in enumerate(numbers):
         good = number % 2 == parity
         leaf = (b"Inf" if good else b"Fin", number)
@@ -198,7 +198,7 @@ class Reader:
         return made
 
     def read_headers(self):
-        """Reads the headers up to the body: aliases last, since one may stand before `AP:`."""
+        """Reads the headers up to the body: aliases last, since one can come before `AP:`."""
         places = []
         while self.tokens.kind == "header":
             name = self.tokens.bytes[:-1].decode()
@@ -245,7 +245,7 @@ class Reader:
             self.headers[name] = self.skip_values()
 
     def skip_values(self):
-        """Goes past the values of a header; answers them."""
+        """Skips the values of a header; answers them."""
         values = []
         while self.tokens.kind in ("number", "word", "string", "alias") or self.tokens.bytes in (b"!", b"&", b"|", b"(", b")"):
             values.append(self.tokens.bytes)
@@ -259,14 +259,14 @@ class Reader:
         return [self.tokens.take("string") for _ in range(count)]
 
     def read_numbers(self, limit):
-        """Numbers up to something else, below the limit if there is one."""
+        """The numbers up to the next other token, each below the limit if there is one."""
         found = []
         while self.tokens.kind == "number":
             found.append(self.tokens.take("number") if limit is None else self.tokens.take_below(limit))
         return found
 
     def read_label(self, tokens):
-        """The letters that a label has."""
+        """The letters of a label."""
         count = len(self.propositions)
 
         def read_atom(tokens):
@@ -282,7 +282,7 @@ class Reader:
                             lambda letters: all_letters(count) ^ letters)
 
     def read_bracketed(self):
-        """The letters of a label in brackets, or None where there is none. Some are kept, since states often have the same ones."""
+        """The letters of a label in brackets, or None if there is none. Some are kept, since states often have the same ones."""
         tokens = self.tokens
         if tokens.bytes != b"[":
             return None
@@ -325,7 +325,7 @@ class Reader:
         tokens.take("end")
 
     def read_edges(self, state, label):
-        """The edges of a state with that label; edges to one target with the same sets are taken together."""
+        """The edges of a state with that label; edges to one target with the same sets are joined."""
         found = []
         while self.tokens.bytes == b"[" or self.tokens.kind == "number":
             letters = self.read_bracketed()
@@ -348,7 +348,7 @@ class Reader:
 
 
 def add_letters(groups, kind, letters):
-    """Adds letters to those of a kind. The first stay the same number, of which there is one in memory however many edges have it."""
+    """Adds letters to those of a kind. The first letters stay the same object, which memory has once however many edges have it."""
     groups[kind] = groups[kind] | letters if kind in groups else letters
 
 

@@ -1,4 +1,4 @@
-"""Games and solutions as tools/draw and tools/circuit read them, what is reached by a solution, and the words of an automaton for the
+"""Games and solutions as tools/draw and tools/circuit read them, the part that a solution reaches, and the words of an automaton for the
 vertices and edges of its game."""
 import re
 from typing import NamedTuple
@@ -21,17 +21,17 @@ class Vertex(NamedTuple):
 
 class Game(NamedTuple):
     vertices: dict  # by their identifiers
-    start: object  # the identifier behind `start`, or None
+    start: object  # the identifier after `start`, or None
 
 
 class Answer(NamedTuple):
     winner: int
-    choice: object  # where the winner goes, or None where it doesn't own the vertex
+    choice: object  # where the winner goes, or None if it doesn't own the vertex
 
 
 class Part(NamedTuple):
-    """A part of a game: where it begins, or None, its edges, for each vertex in the order in which they are met, and the vertices of
-    which edges are left out since they lie too far away."""
+    """A part of a game: where it begins, or None; its edges, by vertex in the order in which the vertices are met; and the vertices
+    that are so far away that edges of theirs are left out."""
     first: object
     edges: dict
     cut: set
@@ -44,7 +44,7 @@ def name_of(string):
 
 
 def tokens_of(text, *clauses):
-    """The tokens of a game or a solution behind such clauses as `parity N;`, where they stand, and the number of each clause."""
+    """The tokens of a game or a solution after clauses such as `parity N;`, if there are any, and the number of each clause."""
     tokens, numbers = Tokens(text, GAME_TOKEN, lambda text, place: GAME_BLANKS.match(text, place).end()), {}
     for word in clauses:
         if tokens.bytes == word:
@@ -85,7 +85,7 @@ def read_game(text):
 
 
 def read_solution(text, game):
-    """The solution of a text: for each identifier the answer."""
+    """The solution of a text: the answer for each identifier."""
     (tokens, _), solution = tokens_of(text, b"paritysol"), {}
     while tokens.kind != "end":
         number, winner = tokens.take("number"), tokens.take_below(2)
@@ -104,7 +104,7 @@ def read_solution(text, game):
 
 
 def read_verdict(text, game):
-    """The edges that a verdict names, and what it says of them."""
+    """The edges that a verdict names, and what it says about them."""
     if not VERDICT.fullmatch(text):
         raise Fault("a verdict is WINS, LEAVES V W or CYCLE P V,V,..")
     if text.startswith(b"WINS"):
@@ -122,14 +122,14 @@ def read_verdict(text, game):
 
 
 def followed(game, solution, number):
-    """Where a play goes on from a vertex that follows the solution: all successors where the winner doesn't own it, or nothing is
-    chosen."""
+    """The successors to which a play that follows the solution can go on from a vertex: all of them if the winner doesn't own it, or
+    if nothing is chosen."""
     choice = solution[number].choice if number in solution else None
     return game.vertices[number].successors if choice is None else [choice]
 
 
 def reached(game, solution, first, depth=None):
-    """The part that is reached from a vertex by a solution, which may be empty, in so many steps."""
+    """The part that a solution, which can be empty, reaches from a vertex, in `depth` steps if that is given."""
     distance, order = {first: 0}, [first]
     for number in order:  # it grows as vertices are met
         for successor in followed(game, solution, number) if distance[number] != depth else ():
@@ -146,7 +146,7 @@ def whole(game):
 
 
 class Words:
-    """What the vertices and edges of the game of an automaton are called."""
+    """The words for the vertices and edges of an automaton's game."""
 
     def __init__(self, automaton):
         self.automaton = automaton
@@ -165,7 +165,7 @@ class Words:
         return shown(content_of(string)) or f"state {number}"
 
     def parts(self, name):
-        """(state, set, input letter) of a vertex by its name; each but the state may be None. Of `dead` there are none."""
+        """(state, set, input letter) of a vertex, from its name; each but the state can be None. `dead` has none of them."""
         found = re.fullmatch(r"s(\d{1,10})(?:/(\d{1,10})|:(\d{1,10}))?", name)
         numbers = [it and int(it) for it in found.groups()] if found else [self.automaton.count, None, None]
         limits = self.automaton.count, self.automaton.sets, 1 << len(self.inputs)
@@ -181,7 +181,7 @@ class Words:
         return self.state(state) + letter + ("" if counting is None else f" {{{counting}}}")
 
     def letter(self, inputs, outputs):
-        """The letter of the automaton that consists of these."""
+        """The letter of the automaton that consists of these two."""
         return sum((inputs >> bit & 1) << place for bit, place in enumerate(self.inputs)) \
             + sum((outputs >> bit & 1) << place for bit, place in enumerate(self.outputs))
 
@@ -191,7 +191,7 @@ class Words:
         return f"s{state}" + ("" if counting is None else f"/{counting}")
 
     def of_edges(self, name):
-        """For the name of an answer the output letters that go to each arrival, by its name; nothing for another vertex."""
+        """For the name of an answer, the output letters that lead to each arrival, by the arrival's name; nothing for another vertex."""
         state, _, letter = self.parts(name) if name != "dead" else (0, None, None)
         found = {}
         for outputs in range(1 << len(self.outputs)) if letter is not None else ():

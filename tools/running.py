@@ -14,7 +14,7 @@ def names_in(circuit, kind, count):
 
 
 class Simulation:
-    """A run of a circuit: its latches, and the names of its inputs and outputs. What a step does is kept, since most come again."""
+    """A run of a circuit: its latches, and the names of its inputs and outputs. The result of each step is kept, since most recur."""
 
     def __init__(self, circuit):
         self.circuit, self.known = circuit, {}
@@ -32,7 +32,7 @@ class Simulation:
         return outputs
 
     def computed(self, held):
-        """The latches behind a step, and the outputs that hold in it."""
+        """The latches after a step, and the outputs that hold in it."""
         values = [0, 1]  # of each literal
         for bit in [*(int(name in held) for name in self.inputs), *self.latches]:
             values += (bit, 1 - bit)
@@ -44,15 +44,15 @@ class Simulation:
 
 
 class Loops:
-    """The loops that a run closes: after which steps it was at each place, and the sets that count in the steps since. Of these the
-    foremost stand first, and each with the last step that met it; one that a set before it was met after counts in no loop."""
+    """The loops that a run closes: the steps after which it was at each place, and the sets that count in the steps since. The foremost
+    set comes first, and each has the last step that met it. A set counts in no loop if one before it was met after it."""
 
     def __init__(self, shape, place):
         self.shape, self.steps, self.visits, self.sets = shape, 0, {place: [0]}, []
 
     def step(self, sets, place, accepted=False):
-        """Takes a step that meets these sets and leads to a place; answers the latest step with which a loop begins that ends here and
-        that is accepted, or isn't; None where there is none."""
+        """Takes a step that meets these sets and leads to a place. Answers the latest step that begins a loop which ends here and is
+        accepted, or rejected if `accepted` is False; None if there is none."""
         counting = self.shape.counting(sets)
         if counting is not None:
             while self.sets and self.shape.counting({self.sets[-1][0], counting}) == counting:
@@ -65,10 +65,10 @@ class Loops:
         return found
 
     def latest(self, visits, accepted):
-        """The last of these steps from which on what counts is accepted, or isn't."""
+        """The last of these steps from which on the set that counts is accepted, or rejected if `accepted` is False."""
         inner, end = None, self.steps
         for counting, step in [*reversed(self.sets), (None, -1)]:
-            # from the steps behind this one on, and up to `end`, the inner set counts
+            # from the steps after this one on, and up to `end`, the inner set counts
             if self.shape.accepts(inner) == accepted:
                 at = bisect.bisect_left(visits, end)
                 if at and visits[at - 1] > step:
@@ -97,7 +97,8 @@ class Run:
         return self.known[key]
 
     def step(self, held, place, accepted=False):
-        """Takes that step; `place` says where the other side is then. Answers what is to be told: a loop that is rejected, or accepted."""
+        """Takes that step; `place` says where the other side is then. Answers the text to print, which names a loop that is rejected, or
+        accepted."""
         if self.state is None:
             return "ended"
         made = self.next(held)
@@ -111,7 +112,7 @@ class Run:
 
 
 class Waves:
-    """What inputs and outputs do, step by step, written to a file in the VCD format; a step takes a nanosecond."""
+    """The values of inputs and outputs, step by step, written to a file in the VCD format; a step takes a nanosecond."""
 
     def __init__(self, file, names):
         self.file, self.steps, self.marks, self.held = file, 0, {}, None
@@ -127,7 +128,7 @@ class Waves:
         return made if number < len(MARKS) else self.mark(number // len(MARKS) - 1) + made
 
     def step(self, held):
-        """The step in which these hold: what changes."""
+        """Writes what changes in the step in which these hold."""
         print(f"#{self.steps}", file=self.file)
         for name, marks in self.marks.items():
             if self.held is None or (name in held) != (name in self.held):

@@ -1,5 +1,4 @@
-"""What the tools have in common: faults, the tokens of a text, inputs that are read, programs that are asked and answers that are
-written."""
+"""What the tools have in common: faults, the tokens of a text, reading inputs, running programs and writing answers."""
 import argparse
 import pathlib
 import re
@@ -7,7 +6,7 @@ import subprocess
 import sys
 
 HERE = pathlib.Path(__file__).resolve()
-# in a checkout, or where all of it is installed
+# in a checkout, or in an installation
 PROGRAM = next((it for it in (HERE.parents[1] / "parsolve", *(up / "bin/parsolve" for up in HERE.parents[3:4])) if it.is_file()),
                pathlib.Path("parsolve"))
 LONGEST_INPUT, GREATEST_NUMBER = 268435456, 4294967295
@@ -19,8 +18,8 @@ class Fault(Exception):
 
 
 def command_line(text):
-    """A reader of a tool's command line, with its help text, in which tools go by the names that they are installed under if this one was
-    called by such a name."""
+    """A reader of a tool's command line, with its help text. If the tool was called by the name that it is installed under, the text calls
+    all tools by such names."""
     called = pathlib.Path(sys.argv[0]).name
     return argparse.ArgumentParser(description=text.replace("tools/", "parsolve-") if called.startswith("parsolve-") else text,
                                    formatter_class=argparse.RawDescriptionHelpFormatter, prog=called, allow_abbrev=False)
@@ -34,7 +33,7 @@ class Tokens:
         self.go_on()
 
     def go_on(self):
-        """Goes past the next token."""
+        """Skips the next token."""
         self.place = self.skip(self.text, self.behind)
         found = self.pattern.match(self.text, self.place)
         self.kind = found.lastgroup if found else "end" if self.place == len(self.text) else "unknown"
@@ -46,7 +45,7 @@ class Tokens:
                 raise Fault(f"number too large at byte {self.place}")
 
     def take(self, kind, *words):
-        """Goes past a token of the kind, one of the words if there are any; answers its number or bytes."""
+        """Skips a token of this kind, and of these words if any are given; answers its number or bytes."""
         if self.kind != kind or (words and self.bytes not in words):
             raise Fault(f"syntax error at byte {self.place}")
         taken = self.number if kind == "number" else self.bytes
@@ -54,14 +53,14 @@ class Tokens:
         return taken
 
     def take_below(self, limit):
-        """The same for a number that has to be below the limit."""
+        """The same for a number that must be below the limit."""
         if self.kind == "number" and self.number >= limit:
             raise Fault(f"number out of range at byte {self.place}")
         return self.take("number")
 
 
 def skip_comments(text, place):
-    """The place behind white space and comments of an automaton; comments nest."""
+    """The place after white space and comments of an automaton; comments nest."""
     place, depth = AUTOMATON_BLANKS.match(text, place).end(), 0
     while depth or text.startswith(b"/*", place):
         mark = COMMENT_MARK.search(text, place)
@@ -104,7 +103,7 @@ def of(path, read, *words):
 
 
 def printed_by(command, text, seconds=None, folder=None):
-    """What a program prints of an input, in a folder; if it fails, the last line that it tells is the fault."""
+    """The output of a program for an input, run in a folder; if it fails, the last line of its error stream is the fault."""
     try:
         ran = subprocess.run(command, input=text, stdout=subprocess.PIPE, stderr=subprocess.PIPE, timeout=seconds, cwd=folder)
     except subprocess.TimeoutExpired:
@@ -118,14 +117,14 @@ def printed_by(command, text, seconds=None, folder=None):
 
 
 def program_of(given):
-    """The program that is asked: that of --program, or the checkout's, which is built where that has to be."""
+    """The program to run: that of --program, or the checkout's, which is built if necessary."""
     if given.program is None and subprocess.call([PROGRAM, "--version"], stdout=subprocess.DEVNULL):
-        raise Fault(f"{PROGRAM} can't be built")  # the first use builds it, and tells on the error stream how far it is
+        raise Fault(f"{PROGRAM} can't be built")  # the first use builds it, and reports on the error stream how far it is
     return given.program or str(PROGRAM)
 
 
 def run(name, answer):
-    """Writes the bytes that are answered, and tells a fault in one line."""
+    """Writes the bytes of the answer, or a fault in one line."""
     try:
         written = answer()
         with open(1, "wb", closefd=False) as output:

@@ -1,5 +1,5 @@
-//! Tells how the least progress measures of a game on standard input are found, once for `measure` and once for `solve`: whether what
-//! the search proposes is certified, or the game has to be lifted. It is there for `tests/certified.py` alone.
+//! Prints how the least progress measures of a game on standard input are found, once for `measure` and once for `solve`:
+//! whether the search's proposal is certified, or the game must be lifted. It exists only for `tests/certified.py`.
 #![tactic(auto)]
 
 use pg_arena::Game;
@@ -9,7 +9,7 @@ use pg_text::read_game;
 use std::alloc::{AllocError, Global};
 use std::io::{self, Read};
 
-/// How a map was found.
+/// Returns how a map was found: `certified` or `lifted`.
 fn way(map: &Found) -> &'static str {
     match map {
         Found::Ranks(_) => "certified",
@@ -17,13 +17,13 @@ fn way(map: &Found) -> &'static str {
     }
 }
 
-/// How the map of a game alone is found.
+/// Returns how the map of a game alone is found.
 fn way_of_measure(alloc: Global, game: &Game) -> Result<&'static str, AllocError> {
     let proposal = propose_measure(alloc, game)?;
     Ok(way(&measure(alloc, game, proposal)?))
 }
 
-/// How those of a game and of its dual are found: both in one way.
+/// Returns how the maps of a game and of its dual are found: both in the same way.
 fn way_of_solve(alloc: Global, game: &Game) -> Result<&'static str, AllocError> {
     let proposals = propose(alloc, game)?;
     Ok(way(&solve(alloc, game, proposals)?.of_game))

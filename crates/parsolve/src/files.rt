@@ -1,4 +1,4 @@
-//! Files, and standard input, that are the input of a command.
+//! The files, or standard input, that are the input of a command.
 
 ghost use Rattle.std.specs.Prelude.{◌≡◌, ◌≢◌};
 
@@ -15,7 +15,8 @@ pub(crate) struct Disk<'r, R> {
     pub rt: &'r R,
 }
 
-/// Why the file of this name has no text, by why its bytes aren't read.
+/// Returns why the file with this name has no text, from the fault of reading it: a failed read names the file, and every other fault stays
+/// as it is.
 fn fault_in(name: &str, fault: CliFault) -> Fault<'_>
     ensures read { fault ≡ CliFault.Read → result ≡ Fault.Read name.entry }
     ensures other { fault ≢ CliFault.Read → result ≡ Fault.Cli fault }
@@ -26,7 +27,7 @@ fn fault_in(name: &str, fault: CliFault) -> Fault<'_>
     }
 }
 
-/// Opens a file that isn't a folder.
+/// Opens a file. Fails if it is a folder.
 fn open_file<R: Files>(rt: &R, name: &str) -> io::Result<R::File> {
     let file = fs::open(rt, name)?;
     if file.metadata()?.is_dir() {
@@ -36,7 +37,7 @@ fn open_file<R: Files>(rt: &R, name: &str) -> io::Result<R::File> {
 }
 
 impl<R: Files + Input + AllocGlobal> Texts for Disk<'_, R> {
-    // what files hold no contract says
+    // no contract says what files hold
     ghost holds = { λ _ _ _. Unit {0} };
 
     fn text<'a>(&self, name: &'a str) -> Result<Vec<u8>, Fault<'a>> {

@@ -1,5 +1,5 @@
-//! The program: it reads the words of the command line and the files, and writes the answer or the line of a fault. `pg_cli_request` says
-//! what comes of them.
+//! The program. It reads the words of the command line and the files, and writes the answer or the line of a fault. `pg_cli_request`
+//! determines which.
 #![tactic(auto)]
 
 mod files;
@@ -23,15 +23,15 @@ const BAD_WORDS: u8 = 2;
 /// With `--status`, the status of an answer other than `WINS`, `ACCEPTED`, `REFUTES` and `SAME`.
 const OTHER_ANSWER: u8 = 10;
 
-/// As many bytes of an answer that may be long are written at once.
+/// The number of bytes of a long answer that are written at once.
 const AT_ONCE: usize = 65_536;
 
-/// What the program needs of the system.
+/// What the program needs from the system.
 trait System: Input + Print + Eprint + AllocGlobal + Reach {}
 
 impl<R: Input + Print + Eprint + AllocGlobal + Reach> System for R {}
 
-/// Does what a request asks for, on standard output, and answers the status.
+/// Does what a request asks for, with the answer on standard output, and returns the exit status.
 fn obey_request<'a, R: System, E: Write>(
     rt: &R,
     errors: &mut E,
@@ -61,7 +61,7 @@ fn obey_request<'a, R: System, E: Write>(
     status
 }
 
-/// Obeys the words, and answers the status.
+/// Does what the words ask for, and returns the exit status.
 fn obey_words<R: System, E: Write>(rt: &R, errors: &mut E, words: &[String]) -> u8 {
     let Ok(parted) = part_words(rt.alloc(), words) else {
         return tell(errors, &Fault::from(AllocError));
@@ -78,7 +78,7 @@ fn obey_words<R: System, E: Write>(rt: &R, errors: &mut E, words: &[String]) -> 
     }
 }
 
-/// The words of the command line; a word that is no text is a fault of the command line.
+/// Returns the words of the command line. Fails if a word isn't UTF-8, which is a fault of the command line, and if memory runs out.
 fn words_of(rt: &HostRuntime) -> io::Result<Vec<String>> {
     Ok(env::args(rt)?.collect(rt.alloc())?)
 }

@@ -1,4 +1,4 @@
--- What is answered of games and solutions in arrays.
+-- The answers about games and solutions in arrays.
 use Rattle.std.specs.Prelude.{◌≡◌, ℕ, ◌<◌, ◌≤◌, List, length, drop, ◌++◌}
 use Rattle.pg_check.specs.Soundness.{IsSound, NoneLeaves}
 use Rattle.pg_check.specs.Verdicts.{IsLeastLeaving, IsSimpleBadCycle}
@@ -16,7 +16,7 @@ pub record IsFoundSound (a : GameArrays) (winners strategy : List ℕ) : Type 0 
   pub spelled : SpellsSolution a winners strategy
   pub sound : IsSound (game_of a) (solution_of winners strategy)
 
--- they spell a solution that isn't
+-- the arrays spell a game and a solution of it, which isn't sound
 pub record IsFoundUnsound (a : GameArrays) (winners strategy : List ℕ) : Type 0 where
   pub spelled : SpellsSolution a winners strategy
   pub unsound : ¬ IsSound (game_of a) (solution_of winners strategy)
@@ -26,12 +26,12 @@ pub record Leaves (a : GameArrays) (winners strategy : List ℕ) (found : Parsol
   pub against : IsFoundUnsound a winners strategy
   pub least : IsLeastLeaving (game_of a) (solution_of winners strategy) found.vertex found.to
 
--- the numbers stand at the front of the output, and the rest is as it was; where there is no room for them, all is as it was
+-- the numbers are at the start of the output, and the rest is as it was; if there is no room for them, all is as it was
 pub record IsHanded (numbers old new : List ℕ) : Type 0 where
   pub front : length numbers ≤ length old → new ≡ numbers ++ drop (length numbers) old
   pub kept : length old < length numbers → new ≡ old
 
--- no such edge is there, and a bad cycle is returned, with this number of vertices: at most as many as the game has
+-- there is no such edge, and a bad cycle is returned with its number of vertices: at most as many as the game has
 pub record HasCycle (a : GameArrays) (winners strategy : List ℕ) (found : ParsolveFound) (old new : List ℕ) : Type 0 where
   pub against : IsFoundUnsound a winners strategy
   pub none_leaves : NoneLeaves (game_of a) (solution_of winners strategy)

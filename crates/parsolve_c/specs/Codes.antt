@@ -44,12 +44,13 @@ vertex_of (BadWinner v) = Some v
 vertex_of (BadChoice v) = Some v
 vertex_of _ = None
 
--- no other fault has the same code and the same vertex, whatever number stood in the place of the vertex
+-- no other fault has the same code and the same vertex, whatever number was in the place of the vertex before
 abbrev pub TellsFaultsApart : Type 0
 TellsFaultsApart = (f g : ArraysFault) (old : ℕ) → code_of f ≡ code_of g
     → unwrap_or (vertex_of f) old ≡ unwrap_or (vertex_of g) old → f ≡ g
 
--- The code is that of a fault that is there. The number is the vertex that the fault names; where it names none, it is as it was.
+-- The code belongs to a fault with which the call is refused. The number is the vertex that the fault names; if it names none, the number
+-- is as it was.
 pub record IsTold (Refuses : ArraysFault → Type 0) (code old new : ℕ) : Type 0 where
   pub fault : ArraysFault
   pub refuses : Refuses fault

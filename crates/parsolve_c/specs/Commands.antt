@@ -1,4 +1,4 @@
--- What the numbers of commands say, and what is answered to a text.
+-- The commands by their numbers, and the answers to a text.
 use Rattle.std.specs.Prelude.{◌≡◌, ◌≢◌, ℕ, ◌<◌, ◌==◌, false, List, length, drop, ◌++◌, Option, Some, None, if◌then◌else◌}
 use Rattle.pg_cli_words.specs.declared.command.Command.{Command}
 use Rattle.pg_cli_words.specs.declared.command.Command.TheVariants.{Measure, Solve, SolveAny, Check, Replay, Automaton, Means, Game, Synth, SynthSmall, SynthCounter, Verify}
@@ -11,7 +11,7 @@ use Rattle.parsolve_c.specs.declared.code.TheConstants.{PARSOLVE_COMMAND_REPLAY,
 use Rattle.parsolve_c.specs.declared.code.TheConstants.{PARSOLVE_COMMAND_VERIFY, PARSOLVE_COMMAND_SYNTH_SMALL, PARSOLVE_COMMAND_AUTOMATON}
 use Rattle.parsolve_c.specs.declared.code.TheConstants.{PARSOLVE_COMMAND_MEANS, PARSOLVE_COMMAND_SYNTH_COUNTER}
 
--- the command of a number
+-- the command with this number
 abbrev pub command_of : ℕ → Option Command
 command_of n =
     if n == PARSOLVE_COMMAND_MEASURE then Some (Measure 1)
@@ -28,7 +28,7 @@ command_of n =
     else (if n == PARSOLVE_COMMAND_SYNTH_COUNTER then Some (SynthCounter 1)
     else None)))))))))))
 
--- each number of the header has a command of its own, and no command has two numbers
+-- each number of the header stands for a command of its own, and no command has two numbers
 pub record NumbersTellApart : Type 0 where
   pub measure : command_of PARSOLVE_COMMAND_MEASURE ≡ Some (Measure 1)
   pub solve : command_of PARSOLVE_COMMAND_SOLVE ≡ Some (Solve 1)
@@ -44,14 +44,14 @@ pub record NumbersTellApart : Type 0 where
   pub synth_counter : command_of PARSOLVE_COMMAND_SYNTH_COUNTER ≡ Some (SynthCounter 1)
   pub one_number : (m n : ℕ) (command : Command) → command_of m ≡ Some command → command_of n ≡ Some command → m ≡ n
 
--- the text is what the command of this number prints for the input
+-- the command with this number prints this text for the input
 pub record IsPrinted (n : ℕ) (input text : List ℕ) : Type 0 where
   pub command : Command
   pub numbered : command_of n ≡ Some command
   pub prints : Prints command input text
 
--- The text is the line of a fault for which the command of this number prints nothing. The fault is the input's own: none of memory, and
--- none of a read or a write, of which there are none.
+-- The text is the line of a fault for which the command with this number prints nothing. The fault is the input's own: it isn't about
+-- memory, and it isn't about a read or a write, since the command makes none of these.
 pub record IsFaultLine (n : ℕ) (input text : List ℕ) : Type 0 where
   pub command : Command
   pub numbered : command_of n ≡ Some command
@@ -62,7 +62,7 @@ pub record IsFaultLine (n : ℕ) (input text : List ℕ) : Type 0 where
   pub no_write : fault ≢ Write
   pub line : text ≡ fault_line fault
 
--- the text stands at the front of the output, the rest is as it was, and the length of the text is returned
+-- the text is at the start of the output, the rest is as it was, and the length of the text is returned
 pub record IsHandedWhole (text old new : List ℕ) (written : ℕ) : Type 0 where
   pub told : written ≡ length text
   pub front : new ≡ text ++ drop (length text) old

@@ -1,3 +1,3 @@
--- What mirrors code: contracts of private functions cite it, and no definition that a reader has to believe does.
+-- Mirrors of code: contracts of private functions cite them, and no definition that a reader has to believe does.
 pub mod Verdicts
 pub mod Replies

@@ -20,7 +20,7 @@ use pg_cli_command::{CliFault, Command, MOST_BYTES, answer, write_fault};
 use pg_cli_in_one_piece::InOnePiece;
 use std::alloc::{AllocError, Global};
 
-/// The command of a number.
+/// Returns the command with this number, if there is one.
 fn command_of(number: u32) -> Option<Command>
     ensures { result ≡ command_of number }
 {
@@ -45,7 +45,7 @@ fn command_of(number: u32) -> Option<Command>
     }
 }
 
-/// What a command prints for an input.
+/// Returns the text that a command prints for an input.
 fn answered(alloc: Global, command: Command, input: &[u8]) -> Result<Vec<u8>, CliFault>
     ensures answer { IfOk result (λ text. Prints command input.now text.items) }
     ensures fault { IfErr result (Refuses command input.now) }
@@ -62,7 +62,7 @@ fn answered(alloc: Global, command: Command, input: &[u8]) -> Result<Vec<u8>, Cl
     Ok(output)
 }
 
-/// The line of a fault.
+/// Returns the line of a fault.
 fn line_of(alloc: Global, fault: &CliFault) -> Result<Vec<u8>, AllocError>
     ensures { IfOk result (λ line. line.items ≡ fault_line fault.now) }
 {
@@ -73,7 +73,8 @@ fn line_of(alloc: Global, fault: &CliFault) -> Result<Vec<u8>, AllocError>
     }
 }
 
-/// Hands a text over if there is room, and tells its length.
+/// Copies a text to the start of the output if there is room for it, and writes its length into `written`. Returns `code`, or
+/// `PARSOLVE_TOO_SHORT` if there isn't.
 fn hand_over(text: &[u8], output: &mut [u8], written: &mut usize, code: u32) -> u32
     requires { code ≢ PARSOLVE_TOO_SHORT }
     ensures told { written.new ≡ length text.now }
@@ -89,18 +90,20 @@ fn hand_over(text: &[u8], output: &mut [u8], written: &mut usize, code: u32) -> 
     code
 }
 
-/// The text for a command and its input.
+/// The reply to a command and its input.
 #[derive(Drop)]
 enum Reply {
     /// What the command prints.
     Answer(Vec<u8>),
     /// The line of the fault for which it prints nothing.
     FaultLine(Vec<u8>),
+    /// No command has the number.
     NoCommand,
+    /// Memory ran out.
     OutOfMemory,
 }
 
-/// The text for the command with a number.
+/// Returns the reply to the command with this number and its input.
 fn reply_to(alloc: Global, number: u32, input: &[u8]) -> Reply
     ensures { IsReply number input.now result }
 {
@@ -109,7 +112,7 @@ fn reply_to(alloc: Global, number: u32, input: &[u8]) -> Reply
     };
     match answered(alloc, command, input) {
         Ok(text) => Reply::Answer(text),
-        // a text in memory is there to be read, and fails to grow only if memory runs out
+        // reading a text in memory can't fail, and a text fails to grow only if memory runs out
         Err(CliFault::OutOfMemory) | Err(CliFault::Read) | Err(CliFault::Write) => {
             Reply::OutOfMemory
         }
@@ -120,10 +123,10 @@ fn reply_to(alloc: Global, number: u32, input: &[u8]) -> Reply
     }
 }
 
-/// Answers a command. `PARSOLVE_OK`: the front of the output holds what the command prints for the input.
-/// `PARSOLVE_FAULT`: the command prints nothing, and the front of the output holds the line of its fault.
-/// `PARSOLVE_TOO_SHORT`: the output is too short for either. In each of these cases `written` is the length of the
-/// text. `PARSOLVE_COMMAND`, `PARSOLVE_OUT_OF_MEMORY`: nothing was written.
+/// Answers the command with the number `command`. `PARSOLVE_OK`: the start of the output holds what the command prints for the input.
+/// `PARSOLVE_FAULT`: the command prints nothing, and the start of the output holds the line of its fault. `PARSOLVE_TOO_SHORT`: the
+/// output is too short for either, and stays as it was. In each of these cases `written` is the length of the text. `PARSOLVE_COMMAND`:
+/// there is no such command. `PARSOLVE_OUT_OF_MEMORY`: memory ran out. In both of these cases nothing was written.
 #[unsafe(no_mangle)]
 pub extern "C" fn parsolve_answer(
     alloc: Global,
@@ -157,13 +160,14 @@ pub extern "C" fn parsolve_answer(
 #[repr(C)]
 #[derive(Drop)]
 pub struct ParsolveText<'a> {
+    /// The bytes of the text.
     pub bytes: &'a mut [u8],
 }
 
-/// Answers a command as `parsolve_answer` does, in memory that the library allocates and the caller frees, so a text of
-/// any length is made once. `PARSOLVE_OK`: `text` is what the command prints for the input. `PARSOLVE_FAULT`: the
-/// command prints nothing, and `text` is the line of its fault. `PARSOLVE_COMMAND`, `PARSOLVE_OUT_OF_MEMORY`: `text`
-/// stays as it was.
+/// Answers a command as `parsolve_answer` does, in memory that the library allocates and the caller frees, so a text of any length is
+/// made only once. `PARSOLVE_OK`: `text` is what the command prints for the input. `PARSOLVE_FAULT`: the command prints nothing, and
+/// `text` is the line of its fault. `PARSOLVE_COMMAND`: there is no such command. `PARSOLVE_OUT_OF_MEMORY`: memory ran out. In both of
+/// these cases `text` stays as it was.
 #[unsafe(no_mangle)]
 pub extern "C" fn parsolve_answer_new<'a>(
     alloc: Global,

@@ -1,4 +1,4 @@
-//! Checking.
+//! Checking solutions.
 
 ghost use Rattle.std.specs.Prelude.{◌≡◌, ◌≢◌};
 ghost use Rattle.parsolve_c_csr.specs.Games.{arrays_of};
@@ -25,7 +25,7 @@ pub struct ParsolveFound {
     pub length: usize,
 }
 
-/// Tells a verdict.
+/// Writes a verdict into `found` and `cycle`, and returns its code.
 fn tell(verdict: &Verdict, found: &mut ParsolveFound, cycle: &mut [u32]) -> u32
     ensures { Tells verdict.now result found.old found.new cycle.old cycle.new }
 {
@@ -46,10 +46,10 @@ fn tell(verdict: &Verdict, found: &mut ParsolveFound, cycle: &mut [u32]) -> u32
     }
 }
 
-/// Checks a solution, no matter which solver made it. `PARSOLVE_OK` if and only if it is sound. `PARSOLVE_LEAVES`:
-/// `found` has the least edge that leads to a vertex with another winner. `PARSOLVE_CYCLE`: its winner loses a cycle,
-/// which is at the front of `cycle` if it fits, as it does if `cycle` has a number for each vertex. Otherwise the code
-/// of the first fault, and the vertex that it names.
+/// Checks a solution, no matter which solver made it. `PARSOLVE_OK` if and only if it is sound. `PARSOLVE_LEAVES`: `found.vertex` and
+/// `found.to` are the least edge that leads to a vertex with another winner. `PARSOLVE_CYCLE`: its winner loses a cycle of `found.length`
+/// vertices, which is at the start of `cycle` if it fits, as it does if `cycle` has a number for each vertex. Otherwise the code of the
+/// first fault; `found.vertex` is the vertex that the fault names, if it names one.
 #[unsafe(no_mangle)]
 pub extern "C" fn parsolve_check(
     alloc: Global,

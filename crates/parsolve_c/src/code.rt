@@ -24,7 +24,7 @@ pub const PARSOLVE_PRIORITY: u32 = 6;
 /// An owner other than 0 and 1.
 pub const PARSOLVE_OWNER: u32 = 7;
 
-/// A start over the next, or a next one past the successors.
+/// A start that is over the next one, or a next start past the end of the successors.
 pub const PARSOLVE_START: u32 = 8;
 
 pub const PARSOLVE_NO_SUCCESSOR: u32 = 9;
@@ -32,7 +32,7 @@ pub const PARSOLVE_NO_SUCCESSOR: u32 = 9;
 /// A successor that is no vertex.
 pub const PARSOLVE_SUCCESSOR: u32 = 10;
 
-/// `winners` or `strategy` hasn't the length of the priorities.
+/// `winners` or `strategy` isn't as long as the priorities.
 pub const PARSOLVE_SOLUTION_LENGTHS: u32 = 11;
 
 /// A winner other than 0 and 1.
@@ -84,7 +84,7 @@ pub const PARSOLVE_COMMAND_MEANS: u32 = 10;
 /// `synth --counter`.
 pub const PARSOLVE_COMMAND_SYNTH_COUNTER: u32 = 11;
 
-/// The code of a fault of a game.
+/// Returns the code of a fault of a game.
 fn game_code(fault: GameFault) -> u32
     ensures { result ≡ game_code fault }
 {
@@ -101,7 +101,7 @@ fn game_code(fault: GameFault) -> u32
     }
 }
 
-/// The code of a fault.
+/// Returns the code of a fault.
 fn code_of(fault: ArraysFault) -> u32
     ensures { result ≡ code_of fault }
 {
@@ -114,7 +114,7 @@ fn code_of(fault: ArraysFault) -> u32
     }
 }
 
-/// The vertex that a fault of a game names.
+/// Returns the vertex that a fault of a game names, if it names one.
 fn game_vertex(fault: GameFault) -> Option<u32>
     ensures { result ≡ game_vertex fault }
 {
@@ -131,7 +131,7 @@ fn game_vertex(fault: GameFault) -> Option<u32>
     }
 }
 
-/// The vertex that a fault names.
+/// Returns the vertex that a fault names, if it names one.
 fn vertex_of(fault: ArraysFault) -> Option<u32>
     ensures { result ≡ vertex_of fault }
 {
@@ -142,7 +142,7 @@ fn vertex_of(fault: ArraysFault) -> Option<u32>
     }
 }
 
-/// Tells a fault: its code, and the vertex that it names.
+/// Returns the code of a fault, and writes the vertex that it names, if it names one, into `vertex`.
 pub(crate) fn tell_fault(fault: ArraysFault, vertex: &mut u32) -> u32
     ensures code { result ≡ code_of fault }
     ensures vertex { vertex.new ≡ unwrap_or (vertex_of fault) vertex.old }

@@ -8,7 +8,7 @@ pub fn codes_tell_apart()
     ensures { TellsFaultsApart }
 {}
 
-/// Each number of the header is that of its command, and of no other.
+/// Each command number of the header stands for its command, and no other number does.
 pub fn numbers_tell_apart()
     ensures { NumbersTellApart }
 {}

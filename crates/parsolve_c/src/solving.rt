@@ -1,4 +1,4 @@
-//! Solving.
+//! Solving games.
 
 ghost use Rattle.std.specs.Prelude.{◌≡◌, ◌≢◌};
 ghost use Rattle.parsolve_c_csr.specs.Games.{arrays_of};
@@ -10,9 +10,8 @@ use crate::code::{PARSOLVE_OK, tell_fault};
 use parsolve_c_csr::{Arrays, solve};
 use std::alloc::Global;
 
-/// Solves a game. `PARSOLVE_OK`: `winners` and `strategy` hold a sound solution of the game that the arrays spell.
-/// Otherwise it returns the code of the first fault; `vertex` holds the vertex that the fault names, and nothing else
-/// was written.
+/// Solves a game. `PARSOLVE_OK`: `winners` and `strategy` hold a sound solution of the game that the arrays spell. Otherwise it returns
+/// the code of the first fault; `vertex` holds the vertex that the fault names, if it names one, and nothing else was written.
 #[unsafe(no_mangle)]
 pub extern "C" fn parsolve_solve(
     alloc: Global,

@@ -8,8 +8,8 @@ use Rattle.pg_arena.specs.declared.player.Player.TheVariants.{Even, Odd}
 use Rattle.pg_arena.specs.Games.{GameVertex}
 use Rattle.parsolve_c_csr.specs.declared.arrays.Arrays.{Arrays}
 
--- The arrays of a game: of each vertex its priority, its owner, and where its successors start among the successors of all.
--- The last start is that of no vertex: the successors of the last vertex end there.
+-- The arrays of a game: for each vertex its priority, its owner, and where its successors start among the successors of all. The last
+-- start belongs to no vertex: the successors of the last vertex end there.
 pub record GameArrays : Type 0 where
   pub priorities : List ℕ
   pub owners : List ℕ
@@ -29,7 +29,7 @@ arrays_of arrays = record {
 abbrev pub player_of : ℕ → Player
 player_of n = if n == 0 then Even else Odd
 
--- the successors of v as they stand in the arrays: from its start to the next one
+-- the successors of v as they are in the arrays: from its start to the next one
 abbrev pub row : GameArrays → ℕ → List ℕ
 row a v = slice_range a.successors (slice_index a.starts v) (slice_index a.starts (v + 1))
 
@@ -52,24 +52,24 @@ pub record HaveLengths (a : GameArrays) : Type 0 where
   pub owners : length a.owners ≡ length a.priorities
   pub starts : length a.starts ≡ length a.priorities + 1
 
--- lengths that fit together, and are those of a game within the limits
+-- lengths that fit together, and that a game within the limits can have
 pub record HaveSizes (a : GameArrays) : Type 0 where
   pub lengths : HaveLengths a
   pub some : 0 < length a.priorities
   pub few_vertices : length a.priorities ≤ MAX_VERTICES
   pub few_edges : length a.successors ≤ MAX_EDGES
 
--- v has a priority and an owner as they have to be
+-- v has a priority and an owner within the limits
 pub record HasPlayer (a : GameArrays) (v : ℕ) : Type 0 where
   pub priority : slice_index a.priorities v ≤ MAX_PRIORITY
   pub owner : slice_index a.owners v ≤ 1
 
--- the row of v stands in the array, and isn't empty
+-- the row of v is within the array, and isn't empty
 pub record HasRow (a : GameArrays) (v : ℕ) : Type 0 where
   pub within : slice_index a.starts (v + 1) ≤ length a.successors
   pub some : slice_index a.starts v < slice_index a.starts (v + 1)
 
--- what is said of v is said of a vertex, and each successor is one
+-- v is a vertex as it must be: its priority and owner are within the limits, its row is within the array, and each successor is a vertex
 pub record IsRow (a : GameArrays) (v : ℕ) : Type 0 where
   pub player : HasPlayer a v
   pub place : HasRow a v

@@ -14,7 +14,7 @@ use Rattle.parsolve_c_csr.specs.Games.{GameArrays, SpellsGame, game_of, player_o
 abbrev pub choice_of : ℕ → Option ℕ
 choice_of n = if n == NO_CHOICE then None else Some n
 
--- what the arrays say of the vertex v
+-- the answer that the arrays give for the vertex v
 abbrev pub answer_of : List ℕ → List ℕ → ℕ → Answer
 answer_of winners strategy v = record {
   winner = player_of (slice_index winners v);
@@ -25,8 +25,8 @@ answer_of winners strategy v = record {
 abbrev pub solution_of : List ℕ → List ℕ → List Answer
 solution_of winners strategy = map (answer_of winners strategy) (range_with_len 0 (length winners))
 
--- The arrays are a sound solution of the game: a winner, 0 or 1, for each vertex, and a number for each; where the winner owns
--- the vertex, that of a successor, and else NO_CHOICE.
+-- The arrays are a sound solution of the game: a winner, 0 or 1, for each vertex, and a number for each: if the winner owns the vertex,
+-- the number of a successor, and otherwise NO_CHOICE.
 pub record Solves (game : List GameVertex) (winners strategy : List ℕ) : Type 0 where
   pub as_many : length strategy ≡ length winners
   pub players : All (λ w. w ≤ 1) winners
@@ -57,7 +57,7 @@ pub record HasNoChoice (game : List GameVertex) (solution : List Answer) (v : �
 abbrev pub IsChosen : List GameVertex → List Answer → ℕ → Type 0
 IsChosen game solution v = owner game v ≡ winner solution v → (w : ℕ) × (choice solution v ≡ Some w) × IsEdge game v w
 
--- a cycle that speaks against a solution has at most so many vertices
+-- a cycle that refutes a solution has at most this many vertices
 abbrev pub KeepsCycle : ℕ → Verdict → Type 0
 KeepsCycle most (BadCycle cycle) = length cycle.items ≤ most
 KeepsCycle most _ = Unit {0}

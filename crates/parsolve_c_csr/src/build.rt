@@ -1,4 +1,4 @@
-//! The game of arrays.
+//! Games made from arrays.
 
 ghost use Rattle.std.specs.Prelude.{◌≡◌, ◌↔◌, ◌<◌, ◌++◌, ◌∷◌, [], length, map, All, OnOk, IsTrue, IfOk, IfErr};
 ghost use Rattle.std.specs.List.{range_with_len};
@@ -18,7 +18,7 @@ fn are_below(numbers: &[u32], bound: usize) -> bool
     numbers.iter().all(|n| (*n as usize) < bound)
 }
 
-/// The player of a number.
+/// Returns the player of a number: Even for 0, and Odd for any other.
 pub(crate) fn player_of(number: u8) -> Player
     ensures { result ≡ player_of number }
 {
@@ -29,7 +29,7 @@ pub(crate) fn player_of(number: u8) -> Player
     }
 }
 
-/// Looks at a vertex, where nothing speaks against what comes before it.
+/// Checks a vertex, after the lengths of the arrays and the vertices before it passed.
 fn examine_vertex(arrays: &Arrays, v: u32) -> Result<(), GameFault>
     requires { IsReached (arrays_of arrays.now) v }
     ensures ok { OnOk result (IsRow (arrays_of arrays.now) v) }
@@ -56,7 +56,7 @@ fn examine_vertex(arrays: &Arrays, v: u32) -> Result<(), GameFault>
     Ok(())
 }
 
-/// Looks at the lengths of the arrays.
+/// Checks the lengths of the arrays.
 fn examine_sizes(arrays: &Arrays) -> Result<(), GameFault>
     ensures ok { OnOk result (HaveSizes (arrays_of arrays.now)) }
     ensures fault { IfErr result (IsFault (arrays_of arrays.now)) }
@@ -89,7 +89,7 @@ pub fn examine(arrays: &Arrays) -> Result<(), GameFault>
     Ok(())
 }
 
-/// Adds the line of a vertex to those before it.
+/// Appends a vertex to those before it.
 fn add_vertex(builder: &mut GameBuilder, arrays: &Arrays, v: u32) -> Result<(), ArenaFault>
     requires spelled { SpellsGame (arrays_of arrays.now) }
     requires within { v < length arrays.now.priorities.now }
@@ -105,7 +105,7 @@ fn add_vertex(builder: &mut GameBuilder, arrays: &Arrays, v: u32) -> Result<(), 
     builder.add(v, arrays.priorities[at], owner, row, None)
 }
 
-/// The game of arrays that spell one; only memory can be refused.
+/// Returns the game of arrays that spell one. It fails only if memory runs out.
 fn built(alloc: Global, arrays: &Arrays) -> Result<Game, ArenaFault>
     requires { SpellsGame (arrays_of arrays.now) }
     ensures game { IfOk result (λ game. game ≡ game_of (arrays_of arrays.now)) }
@@ -118,7 +118,7 @@ fn built(alloc: Global, arrays: &Arrays) -> Result<Game, ArenaFault>
     builder.finish()
 }
 
-/// The same, with the one fault by its name.
+/// Returns the game of arrays that spell one, as `built` does, with its only fault as an `AllocError`.
 pub(crate) fn build(alloc: Global, arrays: &Arrays) -> Result<Game, AllocError>
     requires { SpellsGame (arrays_of arrays.now) }
     ensures { IfOk result (λ game. game ≡ game_of (arrays_of arrays.now)) }
@@ -129,7 +129,7 @@ pub(crate) fn build(alloc: Global, arrays: &Arrays) -> Result<Game, AllocError>
     }
 }
 
-/// Makes the game that the arrays spell. Fails with the first fault in them, or with `OutOfMemory`.
+/// Makes the game that the arrays spell. It fails with the first fault in them, or with `OutOfMemory`.
 pub fn game_of(alloc: Global, arrays: &Arrays) -> Result<Game, ArraysFault>
     ensures spelled { OnOk result (SpellsGame (arrays_of arrays.now)) }
     ensures game { IfOk result (λ game. game ≡ game_of (arrays_of arrays.now)) }

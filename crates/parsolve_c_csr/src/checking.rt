@@ -17,7 +17,7 @@ use pg_check::Verdict;
 use pg_text::Solution;
 use std::alloc::Global;
 
-/// A vertex whose winner is neither 0 nor 1: the first.
+/// Returns the first vertex whose winner is neither 0 nor 1.
 fn bad_winner(winners: &[u8]) -> Option<u32>
     requires { length winners.now ≤ 1048576 }
     ensures some { IfSome result (IsBadWinner winners.now) }
@@ -47,7 +47,7 @@ fn is_chosen(game: &Game, solution: &Solution, v: Vertex) -> bool
     }
 }
 
-/// A vertex whose winner owns it and chooses no successor: the first.
+/// Returns the first vertex whose winner owns it and chooses no successor.
 fn bad_choice(game: &Game, solution: &Solution) -> Option<u32>
     requires { length solution.now ≡ length game.now }
     ensures some { IfSome result (HasNoChoice game.now solution.now) }
@@ -62,7 +62,7 @@ fn bad_choice(game: &Game, solution: &Solution) -> Option<u32>
     None
 }
 
-/// Goes on where there are a winner, 0 or 1, and a number of the strategy for each vertex of the arrays' game.
+/// Succeeds if there are a winner, 0 or 1, and a number of the strategy for each vertex of the arrays' game.
 fn examine_solution(arrays: &Arrays, winners: &[u8], strategy: &[u32]) -> Result<(), ArraysFault>
     requires { SpellsGame (arrays_of arrays.now) }
     ensures lengths { OnOk result (HaveSolutionLengths (arrays_of arrays.now) winners.now strategy.now) }
@@ -79,9 +79,9 @@ fn examine_solution(arrays: &Arrays, winners: &[u8], strategy: &[u32]) -> Result
     }
 }
 
-/// Decides whether the solution in the arrays is sound, with the verdict of `pg_check::check`; a cycle has at most as
-/// many vertices as the game. Fails with the first fault of the game; then with `SolutionLengths`; then with the first
-/// bad winner; then with the first bad choice; or with `OutOfMemory`.
+/// Decides whether the solution in the arrays is sound, with the verdict of `pg_check::check`; a cycle has at most as many vertices as
+/// the game. It fails with the first fault of the game; then with `SolutionLengths`; then with the first bad winner; then with the first
+/// bad choice; or with `OutOfMemory`.
 pub fn check(
     alloc: Global,
     arrays: &Arrays,

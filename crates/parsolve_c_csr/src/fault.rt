@@ -6,8 +6,7 @@ ghost use Rattle.parsolve_c_csr.specs.declared.fault.ArraysFault.TheVariants.{Ou
 use std::alloc::AllocError;
 use thiserror::Error;
 
-/// Why arrays spell no game: the first fault, looking at the lengths first and then at one vertex after the other. The
-/// numbers are vertices.
+/// Why arrays spell no game: the first fault, by the lengths first and then vertex by vertex. The numbers are vertices.
 #[derive(Clone, Copy, Debug, PartialEq, Eq, Error)]
 pub enum GameFault {
     /// There isn't one owner for each priority, or not one start more than priorities.
@@ -28,10 +27,10 @@ pub enum GameFault {
     /// An owner other than 0 and 1.
     #[error("vertex {0} has an owner other than 0 and 1")]
     BadOwner(u32),
-    /// A start that is over the next, or a next one over the number of successors.
+    /// A start that is over the next one, or a next start over the number of successors.
     #[error("the successors of vertex {0} end before they start, or past the array")]
     BadStart(u32),
-    /// A start that is the next one.
+    /// A start that equals the next one.
     #[error("vertex {0} has no successor")]
     NoSuccessor(u32),
     /// A successor that is no vertex.
@@ -42,7 +41,7 @@ pub enum GameFault {
 /// Why a call has no answer. The numbers are vertices.
 #[derive(Clone, Copy, Debug, PartialEq, Eq, Error)]
 pub enum ArraysFault {
-    /// A growth was refused.
+    /// Memory ran out.
     #[error("out of memory")]
     OutOfMemory,
     /// The arrays spell no game.
@@ -54,7 +53,7 @@ pub enum ArraysFault {
     /// A winner other than 0 and 1.
     #[error("vertex {0} has a winner other than 0 and 1")]
     BadWinner(u32),
-    /// The winner owns the vertex, and its number in the strategy isn't a successor's.
+    /// The winner owns the vertex, and its number in the strategy isn't a successor.
     #[error("the strategy at vertex {0} isn't a successor")]
     BadChoice(u32),
 }

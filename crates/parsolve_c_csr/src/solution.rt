@@ -13,7 +13,7 @@ use std::alloc::{AllocError, Global};
 /// The number in a strategy for a vertex without a choice.
 pub const NO_CHOICE: u32 = 4_294_967_295;
 
-/// The number of a player.
+/// Returns the number of a player.
 fn number_of(player: Player) -> u8
     ensures known { player_of result ≡ player }
     ensures small { result ≤ 1 }
@@ -24,7 +24,7 @@ fn number_of(player: Player) -> u8
     }
 }
 
-/// The number of a choice.
+/// Returns the number of a choice.
 fn number_of_choice(choice: Option<Vertex>) -> u32
     requires { IfSome choice (λ w. w < NO_CHOICE) }
     ensures { choice_of result ≡ choice }
@@ -51,7 +51,7 @@ pub(crate) fn write(solution: &Solution, winners: &mut [u8], strategy: &mut [u32
     }
 }
 
-/// The choice of a number.
+/// Returns the choice of a number.
 fn choice_of(number: u32) -> Option<Vertex>
     ensures { result ≡ choice_of number }
 {

@@ -1,4 +1,4 @@
-//! The solution of a game of arrays, as arrays.
+//! Solving games in arrays, with the solutions in arrays.
 
 ghost use Rattle.std.specs.Prelude.{◌≡◌, ◌<◌, ℕ, length, None, OnOk, OnErr, IfOk, IfErr};
 ghost use Rattle.pg_arena.specs.Games.{owner};
@@ -19,8 +19,8 @@ use pg_search::propose;
 use pg_text::Solution;
 use std::alloc::Global;
 
-/// A sound solution of a game, which has no choice where the loser owns the vertex: one that is found at once, and else that of the least
-/// progress measures.
+/// Returns a sound solution of a game, which has no choice where the loser owns the vertex: one that is found at once, or else the
+/// solution by the least progress measures.
 fn solution_of(alloc: Global, game: &Game) -> Result<Solution, CheckFault>
     ensures choices { IfOk result (IsSolution game.now) }
     ensures elsewhere { IfOk result (λ s. (v : ℕ) → v < length game.now → owner game.now v ≡ loser s v → choice s v ≡ None) }
@@ -28,7 +28,7 @@ fn solution_of(alloc: Global, game: &Game) -> Result<Solution, CheckFault>
     ensures fault { IfErr result (λ fault. fault ≡ CheckFault.OutOfMemory) }
 {
     pg_check_determined::laws::never_undecided();
-    // asked for what its contract says of the game
+    // called only for what its contract says about the game
     let _vertices = game.len();
     if let Some(solution) = find_solution(alloc, game)? {
         return Ok(solution);
@@ -38,10 +38,9 @@ fn solution_of(alloc: Global, game: &Game) -> Result<Solution, CheckFault>
     strategies(alloc, game, &maps.of_game, &maps.of_dual)
 }
 
-/// Writes a sound solution of the game that the arrays spell: the winner of each vertex, 0 or 1, and the successor that
-/// the winner chooses if it owns the vertex, or else `NO_CHOICE`. Fails with the first fault of the game; then with
-/// `SolutionLengths` if the outputs aren't as long as there are vertices; or with `OutOfMemory`. After a fault nothing
-/// was written.
+/// Writes a sound solution of the game that the arrays spell: the winner of each vertex, 0 or 1, and the successor that the winner
+/// chooses if it owns the vertex, or else `NO_CHOICE`. It fails with the first fault of the game; then with `SolutionLengths` if the
+/// outputs aren't as long as there are vertices; or with `OutOfMemory`. If it fails, it has written nothing.
 pub fn solve(
     alloc: Global,
     arrays: &Arrays,
@@ -60,9 +59,9 @@ pub fn solve(
         return Err(ArraysFault::SolutionLengths);
     }
     let game = build(alloc, arrays)?;
-    // asked for what its contract says of the game
+    // called only for what its contract says about the game
     let _vertices = game.len();
-    // no vertex is undecided, so only memory can be refused
+    // no vertex is undecided, so it fails only if memory runs out
     let Ok(solution) = solution_of(alloc, &game) else {
         return Err(ArraysFault::OutOfMemory);
     };

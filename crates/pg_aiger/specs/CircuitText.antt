@@ -1,4 +1,4 @@
--- What a circuit text is, by lines of numbers and symbols.
+-- Circuit texts, as lines of numbers and symbols.
 use Rattle.std.specs.Prelude.{◌≡◌, ◌≢◌, ℕ, ◌<◌, Bool, true, false, ◌==◌, List, [], ◌∷◌, ◌++◌, length, map, codes, if◌then◌else◌}
 use Rattle.std.specs.List.{AllByRecursion}
 use Rattle.pg_list_lemmas.specs.Bytes.{Each, is_digit, value_of}
@@ -12,11 +12,11 @@ pub data Kind : Type 0 where
 
 pub record Symbol : Type 0 where
   pub kind : Kind
-  -- which one of its kind, from 0 on
+  -- its index among its kind, from 0 on
   pub position : ℕ
   pub name : List ℕ
 
--- what a line says
+-- the contents of a line
 pub data Row : Type 0 where
   header : List ℕ → Row
   numbers : List ℕ → Row
@@ -26,20 +26,20 @@ pub data Row : Type 0 where
 abbrev pub IsNumber : List ℕ → ℕ → Type 0
 IsNumber digits n = (digits ≢ []) × Each is_digit digits × (value_of digits ≡ n)
 
--- numbers with a single space between
+-- numbers with single spaces between them
 abbrev pub AreNumbers : List ℕ → List ℕ → Type 0
 AreNumbers text [] = text ≡ []
 AreNumbers text (n ∷ []) = IsNumber text n
 AreNumbers text (n ∷ ns) =
     (digits : List ℕ) × (rest : List ℕ) × (text ≡ digits ++ (codes " " ++ rest)) × IsNumber digits n × AreNumbers rest ns
 
--- the letter that tells what a symbol names
+-- the letter of a symbol's kind
 abbrev pub kind_text : Kind → List ℕ
 kind_text input = codes "i"
 kind_text latch = codes "l"
 kind_text output = codes "o"
 
--- what the bytes of a line, without its newline, say
+-- the bytes of a line, without its newline, have these contents
 abbrev pub Says : List ℕ → Row → Type 0
 Says line (header ns) = (text : List ℕ) × (line ≡ codes "aag " ++ text) × AreNumbers text ns
 Says line (numbers ns) = AreNumbers line ns
@@ -50,7 +50,7 @@ Says line (symbol s) =
 abbrev pub is_inner : ℕ → Bool
 is_inner b = if b == 10 then false else true
 
--- the bytes begin with a line, which a newline ends; the rest follows
+-- the bytes begin with a line that a newline ends; the rest follows
 pub record Begins (bytes : List ℕ) (row : Row) (rest : List ℕ) : Type 0 where
   pub line : List ℕ
   pub parts : bytes ≡ line ++ (codes "\n" ++ rest)
@@ -62,7 +62,7 @@ abbrev pub AreRows : List ℕ → List Row → Type 0
 AreRows bytes [] = bytes ≡ []
 AreRows bytes (row ∷ rows) = (rest : List ℕ) × Begins bytes row rest × AreRows rest rows
 
--- `aag M I L O A`: the greatest variable, and how many inputs, latches, outputs and gates there are; these, a line for each; and
+-- `aag M I L O A`: the greatest variable, and the numbers of inputs, latches, outputs and gates; then a line for each of these; then the
 -- symbols
 abbrev pub rows_of : Circuit → List Symbol → List Row
 rows_of circuit symbols =

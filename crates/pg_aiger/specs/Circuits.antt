@@ -1,10 +1,10 @@
--- Circuits of gates and latches, as the AIGER format has them.
+-- Circuits of gates and latches, as in the AIGER format.
 use Rattle.std.specs.Prelude.{◌≡◌, ℕ, suc, ◌+◌, ◌*◌, ◌<◌, ◌≤◌, List, [], ◌∷◌, length, map, slice_index_or}
 use Rattle.std.specs.List.{range_with_len}
 use Rattle.pg_aiger.specs.declared.gate.Gate.{Gate}
 pub use Rattle.pg_aiger.specs.declared.gate.Latch.{Latch}
 
--- What the lines say. A literal is twice its variable, plus one if it is negated.
+-- The contents of the lines. A literal is twice its variable, plus one if it is negated.
 pub record Circuit : Type 0 where
   -- the greatest variable
   pub greatest : ℕ
@@ -13,16 +13,16 @@ pub record Circuit : Type 0 where
   pub outputs : List ℕ
   pub gates : List Gate
 
--- the literals of variables one after another
+-- the literals of consecutive variables
 abbrev pub literals_from : ℕ → ℕ → List ℕ
 literals_from first count = map (λ variable. 2 * variable) (range_with_len first count)
 
--- latches of variables one after another, and what each takes over
+-- latches of consecutive variables, with the next literal of each
 abbrev pub latches_from : ℕ → List ℕ → List Latch
 latches_from first [] = []
 latches_from first (next ∷ rest) = record { literal = 2 * first; next = next } ∷ latches_from (suc first) rest
 
--- The circuit of these inputs, literals that latches take over, outputs and gates: its variables from 1 on are the inputs, then
+-- The circuit of the given number of inputs, next literals of latches, outputs and gates: its variables from 1 on are the inputs, then
 -- the latches, and then the gates.
 abbrev pub circuit_in_order : ℕ → List ℕ → List ℕ → List Gate → Circuit
 circuit_in_order inputs nexts outputs gates = record {
@@ -51,8 +51,8 @@ AreGatesFrom first [] = Unit {0}
 AreGatesFrom first (gate ∷ rest) =
     (gate.lhs ≡ 2 * first) × (gate.rhs0 < 2 * first) × (gate.rhs1 ≤ gate.rhs0) × AreGatesFrom (suc first) rest
 
--- The order that the binary form of the format asks for: the variables from 1 on are the inputs, then the latches, then the
--- gates, and no other is there.
+-- The order that the binary form of the format asks for: the variables from 1 on are the inputs, then the latches, then the gates, and
+-- there are no others.
 pub record IsNumbered (circuit : Circuit) : Type 0 where
   pub greatest : circuit.greatest ≡ length circuit.inputs + length circuit.latches + length circuit.gates
   pub inputs : (j : ℕ) → j < length circuit.inputs → input_at circuit j ≡ 2 * (j + 1)

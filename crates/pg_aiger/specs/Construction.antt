@@ -1,4 +1,4 @@
--- The circuit of a machine, gate after gate.
+-- The circuit of a machine, gate by gate.
 use Rattle.std.specs.Prelude.{ℕ, ◌+◌, ◌-◌, ◌*◌, ◌%◌, ◌^◌, min, max, ◌||◌, nat_eq, List, [], ◌∷◌, ◌++◌, length, map, fold, flat_map, if◌then◌else◌}
 use Rattle.std.specs.List.{range_with_len, items_where_true}
 use Rattle.pg_synth.specs.Machines.{Machine}
@@ -7,12 +7,12 @@ use Rattle.pg_aiger.specs.declared.gate.Gate.{Gate}
 use Rattle.pg_aiger.specs.Circuits.{Circuit, circuit_in_order}
 use Rattle.pg_aiger.specs.Runs.{bit}
 
--- gates that are being made: the variable of the first, and those so far
+-- gates while they are being made: the variable of the first one, and the gates so far
 pub record Drafted : Type 0 where
   pub base : ℕ
   pub gates : List Gate
 
--- what is made of literals: the gates then, and the literal
+-- the result of joining literals: the gates after that, and the literal
 abbrev pub Made : Type 0
 Made = Drafted × ℕ
 
@@ -37,29 +37,29 @@ negation literal = if nat_eq (literal % 2) 1 then literal - 1 else literal + 1
 unfoldable pub disjunction : Drafted → ℕ → ℕ → Made
 disjunction draft x y = let made = conjunction draft (negation x) (negation y) in (made.0, negation made.1)
 
--- the conjunction of a list of literals, from the left; of none it is 1
+-- the conjunction of a list of literals, from the left; 1 for the empty list
 abbrev pub conjunction_of : Drafted → List ℕ → Made
 conjunction_of draft literals = fold (λ (so_far : Made) literal. conjunction so_far.0 so_far.1 literal) (draft, 1) literals
 
--- the disjunction likewise; of none it is 0
+-- the disjunction of a list of literals, from the left; 0 for the empty list
 abbrev pub disjunction_of : Drafted → List ℕ → Made
 disjunction_of draft literals = fold (λ (so_far : Made) literal. disjunction so_far.0 so_far.1 literal) (draft, 0) literals
 
--- one list of literals after another is joined: the gates then, and a literal for each list
+-- joins one list of literals after another: the gates after that, and a literal for each list
 abbrev pub each_made : (Drafted → List ℕ → Made) → Drafted → List (List ℕ) → Drafted × List ℕ
 each_made join draft [] = (draft, [])
 each_made join draft (literals ∷ rest) =
     let made = join draft literals in let others = each_made join made.0 rest in (others.0, made.1 ∷ others.1)
 
--- the variables from `first` on, negated where the number has a 0, the low bit first
+-- the `count` variables from `first` on, negated where the number has a 0, the low bit first
 abbrev pub spelling : ℕ → ℕ → ℕ → List ℕ
 spelling first count number = map (λ j. 2 * (first + j) + (if bit number j then 0 else 1)) (range_with_len 0 count)
 
--- what the minterm of a state and an input letter is the conjunction of: the latches by the state, then the inputs by the letter
+-- the literals whose conjunction is the minterm of a state and an input letter: the latches by the state, then the inputs by the letter
 abbrev pub minterm_literals : ℕ → ℕ → ℕ → ℕ → List ℕ
 minterm_literals inputs latches state letter = spelling (1 + inputs) latches state ++ spelling 1 inputs letter
 
--- those of each state, rising, and each input letter, rising
+-- the literals of all minterms: by rising states, and for each state by rising input letters
 abbrev pub all_minterms : Machine → ℕ → List (List ℕ)
 all_minterms machine latches =
     flat_map (λ state. map (minterm_literals machine.inputs latches state) (range_with_len 0 (2 ^ machine.inputs)))
@@ -69,12 +69,12 @@ all_minterms machine latches =
 abbrev pub having : ℕ → List ℕ → List ℕ → List ℕ
 having j numbers minterms = items_where_true (map (λ number. bit number j) numbers) minterms
 
--- so for each bit, the low one first
+-- for each bit, the low one first, the minterms at which the number has it
 abbrev pub bit_columns : ℕ → List ℕ → List ℕ → List (List ℕ)
 bit_columns width numbers minterms = map (λ j. having j numbers minterms) (range_with_len 0 width)
 
--- The circuit of a machine, with so many latches: the minterms are made first, then what the latches take over, and then the
--- outputs, each the disjunction of the minterms at which its bit is set.
+-- The circuit of a machine, with the given number of latches. The minterms are made first, then the next literals of the latches, and
+-- then the outputs. Each of these literals is the disjunction of the minterms at which its bit is set.
 unfoldable pub made_circuit : Machine → ℕ → Circuit
 made_circuit machine latches =
     let minterms = each_made conjunction_of (record { base = 1 + machine.inputs + latches; gates = [] }) (all_minterms machine latches) in

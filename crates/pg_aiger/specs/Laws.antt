@@ -9,11 +9,11 @@ use Rattle.pg_aiger.specs.Machines.{IsTooLarge, IsCircuitOf}
 use Rattle.pg_aiger.specs.CircuitText.{Symbol, IsCircuitText}
 use Rattle.pg_aiger.specs.CircuitLayout.{symbols_of, circuit_text}
 
--- a circuit in its order has exactly one run for each endless input word
+-- a circuit whose variables are in order has exactly one run for each endless input word
 abbrev pub OneRun : Type 0
 OneRun = (circuit : Circuit) (input : ℕ → ℕ) → IsNumbered circuit → HasOneRun circuit input
 
--- in a circuit in its order each step has exactly one valuation
+-- in a circuit whose variables are in order, each step has exactly one valuation
 pub record HasOneStep (circuit : Circuit) (state letter : ℕ) : Type 0 where
   pub some : (v : Valuation) × IsStepAt circuit state letter v
   pub one : (first second : Valuation) → IsStepAt circuit state letter first → IsStepAt circuit state letter second
@@ -22,8 +22,8 @@ pub record HasOneStep (circuit : Circuit) (state letter : ℕ) : Type 0 where
 abbrev pub OneStep : Type 0
 OneStep = (circuit : Circuit) (state letter : ℕ) → IsNumbered circuit → HasOneStep circuit state letter
 
--- The circuit of a machine has exactly one run for each endless word of input letters, and the word of that run is the
--- machine's, and no other.
+-- The circuit of a machine has exactly one run for each endless word of input letters, and the word of that run is the machine's and no
+-- other.
 pub record FollowsMachine (controllable : List Bool) (machine : Machine) (circuit : Circuit) (input : ℕ → ℕ) : Type 0 where
   pub one_run : HasOneRun circuit input
   pub word : IsWordOf circuit controllable input (machine_word controllable machine input)

@@ -5,13 +5,13 @@ use Rattle.pg_aiger.specs.Circuits.{Circuit, IsNumbered}
 use Rattle.pg_aiger.specs.Construction.{made_circuit}
 use Rattle.pg_aiger.specs.Runs.{Valuation, current, number_of, IsRun, HasOneRun}
 
--- the least number of latches that can tell so many states apart
+-- the least number of latches that can tell the given number of states apart
 pub record IsWidth (states latches : ℕ) : Type 0 where
   pub enough : states ≤ 2 ^ latches
   pub least : (fewer : ℕ) → fewer < latches → 2 ^ fewer < states
 
--- How many variables there are at most: the inputs and latches, and for each state and input letter the gates of one
--- conjunction of all latches and inputs, and one gate for each bit of the next state and of the output letter.
+-- An upper bound on the number of variables: the inputs and latches, and for each state and input letter the gates of one conjunction of
+-- all latches and inputs, and one gate for each bit of the next state and of the output letter.
 abbrev pub count_ahead : Machine → ℕ → ℕ
 count_ahead machine latches =
     machine.inputs + latches + machine.states * 2 ^ machine.inputs * (machine.inputs + 2 * latches + machine.outputs)
@@ -20,15 +20,15 @@ count_ahead machine latches =
 abbrev pub IsTooLarge : Machine → Type 0
 IsTooLarge machine = (latches : ℕ) × IsWidth machine.states latches × (1073741823 < count_ahead machine latches)
 
--- As long as the run lasts its inputs spell the input letters, its latches the machine's states, and its outputs the machine's
--- output letters.
+-- As long as the run lasts, its inputs spell the input letters, its latches the machine's states, and its outputs the machine's output
+-- letters.
 pub record RunsAs (machine : Machine) (circuit : Circuit) (input : ℕ → ℕ) (count : ℕ) (run : ℕ → Valuation) : Type 0 where
   pub letters : (t : ℕ) → t < count → number_of (run t) circuit.inputs ≡ input t
   pub states : (t : ℕ) → t < count → number_of (run t) (current circuit) ≡ machine_state machine input t
   pub outputs : (t : ℕ) → t < count → number_of (run t) circuit.outputs ≡ machine_output machine input t
 
--- The circuit is the one that is made of the machine, with as few latches as there can be. It is within the limit, and has as
--- many inputs and outputs as the machine. For every list of input letters it has exactly one run, which runs as the machine.
+-- The circuit is the one made from the machine, with as few latches as possible. It is within the limit, and has as many inputs and
+-- outputs as the machine. For every list of input letters it has exactly one run, which follows the machine.
 pub record IsCircuitOf (machine : Machine) (circuit : Circuit) : Type 0 where
   pub numbered : IsNumbered circuit
   pub within : circuit.greatest ≤ 1073741823

@@ -30,8 +30,8 @@ current circuit = map Latch.literal circuit.latches
 abbrev pub nexts : Circuit → List ℕ
 nexts circuit = map Latch.next circuit.latches
 
--- A run over the first `count` input letters: a valuation for each of them. Variable 0 is false; the inputs have the letter's
--- bits; the latches are 0 at first, and then what their next literals were one step before.
+-- A run over the first `count` input letters: a valuation for each of them. Variable 0 is false; the inputs have the letter's bits; the
+-- latches are 0 at first, and later have the values that their next literals had one step before.
 pub record IsRun (circuit : Circuit) (input : ℕ → ℕ) (count : ℕ) (run : ℕ → Valuation) : Type 0 where
   pub constant : (t : ℕ) → t < count → run t 0 ≡ false
   pub inputs : (t : ℕ) → t < count → HaveBits (run t) circuit.inputs (input t)
@@ -40,8 +40,8 @@ pub record IsRun (circuit : Circuit) (input : ℕ → ℕ) (count : ℕ) (run : 
       → value (run (suc t)) (latch_at circuit j).literal ≡ value (run t) (latch_at circuit j).next
   pub gates : (t : ℕ) → t < count → Satisfies (run t) circuit.gates
 
--- Each list of input letters has exactly one run, and a longer list's run starts with a shorter one's: as long as both last
--- they say the same of each variable.
+-- Each list of input letters has exactly one run, and the run of a longer list starts with the run of a shorter one: as long as both
+-- last, they give each variable the same value.
 pub record HasOneRun (circuit : Circuit) (input : ℕ → ℕ) : Type 0 where
   pub some : (count : ℕ) → (run : ℕ → Valuation) × IsRun circuit input count run
   pub one : (shorter longer : ℕ) (first second : ℕ → Valuation) → shorter ≤ longer
@@ -58,27 +58,27 @@ number_of v (literal ∷ rest) = (if value v literal then 1 else 0) + 2 * number
 abbrev pub letter_of : Circuit → List Bool → Valuation → ℕ
 letter_of circuit controllable v = joined controllable (number_of v circuit.inputs) (number_of v circuit.outputs)
 
--- the letter at step t is that of the last valuation of the run over the first t + 1 input letters
+-- the letter at step t is the letter of the last valuation of the run over the first t + 1 input letters
 abbrev pub IsWordOf : Circuit → List Bool → (ℕ → ℕ) → (ℕ → ℕ) → Type 0
 IsWordOf circuit controllable input word =
     (t : ℕ) (run : ℕ → Valuation) → IsRun circuit input (suc t) run → word t ≡ letter_of circuit controllable (run t)
 
--- A valuation of one step, in which the latches have the bits of the state and the inputs those of the letter.
+-- A valuation of one step, in which the latches have the bits of the state and the inputs the bits of the letter.
 pub record IsStepAt (circuit : Circuit) (state letter : ℕ) (v : Valuation) : Type 0 where
   pub constant : v 0 ≡ false
   pub inputs : HaveBits v circuit.inputs letter
   pub latches : (j : ℕ) → j < length circuit.latches → value v (latch_at circuit j).literal ≡ bit state j
   pub gates : Satisfies v circuit.gates
 
--- In the step, of which there is a valuation, the outputs spell `output`, and the latches' next literals `next`.
+-- The step has a valuation in which the outputs spell `output` and the latches' next literals spell `next`.
 pub record Steps (circuit : Circuit) (state letter output next : ℕ) : Type 0 where
   pub valuation : Valuation
   pub step : IsStepAt circuit state letter valuation
   pub outputs : output ≡ number_of valuation circuit.outputs
   pub nexts : next ≡ number_of valuation (nexts circuit)
 
--- In every run that has these latches and this input letter at some step, these are the outputs there, and the latches of the
--- step that follows.
+-- In every run that has these latches and this input letter at some step, the outputs spell `output` there, and the latches spell `next`
+-- in the step after it.
 abbrev pub GoesOn : Circuit → ℕ → ℕ → ℕ → ℕ → Type 0
 GoesOn circuit state letter output next =
     (input : ℕ → ℕ) (count t : ℕ) (run : ℕ → Valuation) → IsRun circuit input count run → t < count

@@ -1,4 +1,4 @@
-//! Circuits: making them, and their steps.
+//! Circuits: how they are made, and their steps.
 
 ghost use Rattle.std.specs.Prelude.{◌≡◌, ◌≢◌, ◌↔◌, ◌+◌, ◌*◌, ◌^◌, ◌<◌, ◌≤◌, Err, length, All, IfOk, IfErr, IfNone, IfSome, OnErr, OnSome};
 ghost use Rattle.pg_aiger.specs.Circuits.{AreGatesFrom, circuit_in_order};
@@ -21,8 +21,9 @@ use std::marker::Model;
 
 const MAX_VARIABLES: u64 = 1_073_741_823;
 
-/// A circuit. Its variables count from 1: first the inputs, then the latches, then the gates. The literals of a gate
-/// have smaller variables than the gate.
+/// A circuit. A literal is twice its variable, plus one if it is negated; variable 0 is the constant false. The other variables count
+/// from 1: first the inputs, then the latches, then the gates. The literals of a gate have smaller variables than the gate. There are at
+/// most 16 inputs, 16 latches and 16 outputs, and at most 1,073,741,823 variables.
 #[derive(Debug, Drop)]
 pub struct Circuit {
     pub(crate) inputs: u32,
@@ -46,9 +47,9 @@ impl Circuit {
     /// Returns the circuit of these parts: the number of inputs, the next literals of the latches, the literals of the outputs, and the
     /// gates.
     ///
-    /// It returns `None` if and only if there are more than 16 inputs, latches or outputs, or more than 1,073,741,823 variables; or if the
-    /// gates don't define the variables behind inputs and latches one after another, each by literals of smaller variables, the greater
-    /// one first; or if a latch or an output has a literal of an undefined variable.
+    /// It returns `None` if and only if there are more than 16 inputs, latches or outputs, or more than 1,073,741,823 variables; or if
+    /// the gates don't define the variables after the inputs and latches in order, each by literals of smaller variables, the greater one
+    /// first; or if a latch or an output uses a literal of an undefined variable.
     pub fn of_parts(
         inputs: u32,
         nexts: Vec<u32>,
@@ -70,7 +71,7 @@ impl Circuit {
         })
     }
 
-    /// The number of inputs, the next literals of the latches, the literals of the outputs, and the gates.
+    /// Returns the number of inputs, the next literals of the latches, the literals of the outputs, and the gates.
     pub fn parts(&self) -> (u32, &[u32], &[u32], &[Gate])
         ensures parts { self.now ≡ circuit_in_order result.0 result.1.now result.2.now result.3.now }
         ensures kept { IsKept result.0 result.1.now result.2.now result.3.now }
@@ -78,10 +79,11 @@ impl Circuit {
         (self.inputs, &self.nexts, &self.outputs, &self.gates)
     }
 
-    /// Makes one step, and returns the output letter for an input letter. Bit j of `inputs` is the j-th input. Bit j of
-    /// `bits` is the j-th latch, before the call and after it. Further bits are ignored. A run begins with all bits 0.
+    /// Makes one step, and returns the output letter for the input letter `inputs`. Bit j of `inputs` is the j-th input, and bit j of the
+    /// output letter the j-th output. Bit j of `bits` is the j-th latch, before the call and after it. Further bits are ignored. A run
+    /// begins with all bits 0.
     ///
-    /// It fails only with `OutOfMemory`, and then `bits` stays as it was.
+    /// It fails only with `OutOfMemory`, and then leaves `bits` unchanged.
     pub fn step(&self, bits: &mut u32, inputs: u32) -> Result<u32, AigerFault>
         ensures step { IfOk result (λ output. Steps self.now bits.old inputs output bits.new) }
         ensures run { IfOk result (λ output. GoesOn self.now bits.old inputs output bits.new) }
@@ -97,7 +99,7 @@ impl Circuit {
     }
 }
 
-/// The least number of latches that tells the states apart.
+/// Returns the least number of latches that tells the states apart.
 fn latches_for(states: u32) -> u32
     requires { states ≤ 2 ^ 16 }
     ensures width { IsWidth states result }
@@ -111,7 +113,7 @@ fn latches_for(states: u32) -> u32
     16
 }
 
-/// How many places the table of a machine has: one for each state and input letter.
+/// Returns how many places the table of a machine has: one for each state and input letter.
 fn places_of(machine: &Mealy) -> u32
     requires { IsMachine machine.now }
     ensures count { result ≡ machine.now.states * 2 ^ machine.now.inputs }
@@ -120,7 +122,7 @@ fn places_of(machine: &Mealy) -> u32
     machine.states() << machine.inputs()
 }
 
-/// The output letters and the next states of a machine, place after place.
+/// Returns the output letters and the next states of a machine, place by place.
 fn replies(alloc: Global, machine: &Mealy) -> Result<(Vec<u32>, Vec<u32>), AllocError>
     requires { IsMachine machine.now }
     ensures outputs { IfOk result (λ lists. lists.0.items
@@ -139,11 +141,11 @@ fn replies(alloc: Global, machine: &Mealy) -> Result<(Vec<u32>, Vec<u32>), Alloc
     Ok((outputs, nexts))
 }
 
-/// Makes the circuit of a machine: in every run its outputs are the machine's output letters. Its latches hold the
-/// number of the machine's state.
+/// Makes the circuit of a machine: in every run its outputs are the machine's output letters. Its latches hold the number of the
+/// machine's state.
 ///
-/// It fails with `TooLarge` if and only if the circuit may have more than 1,073,741,823 variables, before it makes any;
-/// no machine is that large (`laws::none_too_large`). Otherwise it fails only with `OutOfMemory`.
+/// It fails with `TooLarge` if and only if the circuit could have more than 1,073,741,823 variables, before it makes any; no machine is
+/// that large (`laws::none_too_large`). Otherwise it fails only with `OutOfMemory`.
 pub fn circuit_of(alloc: Global, machine: &Mealy) -> Result<Circuit, AigerFault>
     ensures circuit { IfOk result (IsCircuitOf machine.now) }
     ensures too_large { (result ≡ Err AigerFault.TooLarge) ↔ IsTooLarge machine.now }
@@ -158,7 +160,7 @@ pub fn circuit_of(alloc: Global, machine: &Mealy) -> Result<Circuit, AigerFault>
     Ok(built(alloc, machine, latches)?)
 }
 
-/// The circuit of a machine, with so many latches.
+/// Returns the circuit of a machine, with the given number of latches.
 fn built(alloc: Global, machine: &Mealy, latches: u32) -> Result<Circuit, AllocError>
     requires machine { IsMachine machine.now }
     requires width { IsWidth machine.now.states latches }
@@ -175,7 +177,7 @@ fn built(alloc: Global, machine: &Mealy, latches: u32) -> Result<Circuit, AllocE
     })
 }
 
-/// The literals that the latches take over, those of the outputs, and the gates.
+/// Returns the next literals of the latches, the literals of the outputs, and the gates.
 fn columns_of(
     alloc: Global,
     machine: &Mealy,
@@ -200,7 +202,7 @@ fn columns_of(
     Ok((nexts, outputs, draft.into_gates()))
 }
 
-/// The value of a literal.
+/// Returns the value of a literal.
 fn read(values: &[bool], literal: u32) -> bool
     requires { literal < 2 * length values.now }
     ensures { (v : Valuation) → Agrees values.now v → result ≡ value v literal }
@@ -208,7 +210,7 @@ fn read(values: &[bool], literal: u32) -> bool
     values[(literal / 2) as usize] != (literal % 2 == 1)
 }
 
-/// The values of all variables, from 0 on, in a step in which the latches have the bits of `state` and the inputs those of
+/// Returns the values of all variables, from 0 on, in a step in which the latches have the bits of `state` and the inputs the bits of
 /// `letter`.
 fn evaluate(
     alloc: Global,
@@ -240,7 +242,7 @@ fn evaluate(
     Ok(values)
 }
 
-/// The number that the literals spell, the low bit first.
+/// Returns the number that the literals spell, the low bit first.
 fn number_of(values: &[bool], literals: &[u32]) -> u32
     requires few { length literals.now ≤ 16 }
     requires literals_in { All (λ literal. literal < 2 * length values.now) literals.now }

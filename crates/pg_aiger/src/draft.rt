@@ -9,7 +9,7 @@ use crate::gate::Gate;
 use std::alloc::{AllocError, Global};
 use std::marker::Model;
 
-/// The gates so far.
+/// The gates made so far. The first one defines the variable `base`.
 #[derive(Drop)]
 pub(crate) struct Draft {
     base: u32,
@@ -27,7 +27,7 @@ impl Model for Draft {
 }
 
 impl Draft {
-    /// No gates yet; the first will be the variable `base`.
+    /// Returns a draft without gates; the first gate will define the variable `base`.
     pub fn new(alloc: Global, base: u32) -> Self
         requires { (0 < base) × (base ≤ 2 ^ 30) }
         ensures base { result.base ≡ base }
@@ -39,7 +39,7 @@ impl Draft {
         }
     }
 
-    /// The gates, in order.
+    /// Returns the gates, in order.
     pub fn into_gates(self) -> Vec<Gate>
         ensures gates { result.items ≡ self.gates }
         ensures draft { IsDraft self }
@@ -47,7 +47,7 @@ impl Draft {
         self.gates
     }
 
-    /// A new gate: the conjunction of two literals.
+    /// Appends a new gate, the conjunction of two literals, and returns its literal.
     fn gate(&mut self, x: u32, y: u32) -> Result<u32, AllocError>
         requires x_in { IsLiteral self.old x }
         requires y_in { IsLiteral self.old y }
@@ -67,7 +67,7 @@ impl Draft {
         Ok(lhs)
     }
 
-    /// The conjunction of two literals: a new gate, unless one of them is constant.
+    /// Returns a literal of the conjunction of two literals: a new gate's, unless one of them is constant.
     #[tactic(auto, using(crate::proofs::Exact::conjunctions))]
     pub fn and(&mut self, x: u32, y: u32) -> Result<u32, AllocError>
         requires x_in { IsLiteral self.old x }
@@ -90,7 +90,7 @@ impl Draft {
         self.gate(x, y)
     }
 
-    /// The disjunction of two literals.
+    /// Returns a literal of the disjunction of two literals.
     pub fn or(&mut self, x: u32, y: u32) -> Result<u32, AllocError>
         requires x_in { IsLiteral self.old x }
         requires y_in { IsLiteral self.old y }
@@ -104,7 +104,8 @@ impl Draft {
         Ok(negated(literal))
     }
 
-    /// Whether `start` holds and the `count` variables from `first` on have the bits of the number, the low bit first.
+    /// Returns a literal that is true if and only if `start` is true and the `count` variables from `first` on have the bits of the
+    /// number, the low bit first.
     pub fn matching(
         &mut self,
         start: u32,
@@ -131,7 +132,7 @@ impl Draft {
     }
 }
 
-/// The negation of a literal.
+/// Returns the negation of a literal.
 fn negated(x: u32) -> u32
     ensures literal { result ≡ negation x }
     ensures variable { result / 2 ≡ x / 2 }

@@ -10,9 +10,9 @@ use std::{fmt, io};
 /// Why a circuit can't be made, make a step, or be written.
 #[derive(Clone, Copy, Debug, PartialEq, Eq)]
 pub enum AigerFault {
-    /// A growth was refused.
+    /// Memory ran out.
     OutOfMemory,
-    /// The circuit may have more than 1,073,741,823 variables.
+    /// The circuit could have more than 1,073,741,823 variables.
     TooLarge,
     /// The writer failed. It may have written part of the text.
     Write,

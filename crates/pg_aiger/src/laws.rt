@@ -2,12 +2,12 @@
 
 ghost use Rattle.pg_aiger.specs.Laws.{OneRun, OneStep, OneCircuit, CircuitFollows, CircuitReadsBack, NoneTooLarge};
 
-/// A circuit in its order has exactly one run for each endless input word.
+/// A circuit whose variables are in order has exactly one run for each endless input word.
 pub fn one_run()
     ensures { OneRun }
 {}
 
-/// A circuit in its order has exactly one valuation for each step.
+/// A circuit whose variables are in order has exactly one valuation for each step.
 pub fn one_step()
     ensures { OneStep }
 {}

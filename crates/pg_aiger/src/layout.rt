@@ -27,7 +27,7 @@ fn write_spaced<W: Write>(numbers: &[u32], out: &mut W) -> io::Result<()>
     Ok(())
 }
 
-/// A line of numbers with a single space between.
+/// Writes a line of numbers, with single spaces between them.
 fn write_line<W: Write>(numbers: &[u32], out: &mut W) -> io::Result<()>
     ensures { OnOk result (Appends (W.contents out.old) (W.contents out.new) (spaced numbers.now ++ codes "\n")) }
 {
@@ -89,7 +89,7 @@ fn write_gates<W: Write>(gates: &[Gate], out: &mut W) -> io::Result<()>
     Ok(())
 }
 
-/// A symbol: the letter of its kind, its position, a space and the name.
+/// Writes a symbol: the letter of its kind, its position, a space and the name.
 fn write_symbol<W: Write>(
     controlled: bool,
     position: u32,
@@ -106,7 +106,7 @@ fn write_symbol<W: Write>(
     out.write_all(b"\n")
 }
 
-/// The names of the propositions that the controller sets, or of the others.
+/// Writes the symbols of the propositions that the controller sets, or of the others.
 fn write_symbols<W: Write>(automaton: &Automaton, controlled: bool, out: &mut W) -> io::Result<()>
     requires { IsAutomaton automaton.now }
     ensures { OnOk result (Appends (W.contents out.old) (W.contents out.new)
@@ -122,9 +122,9 @@ fn write_symbols<W: Write>(automaton: &Automaton, controlled: bool, out: &mut W)
     Ok(())
 }
 
-/// Writes a circuit in the ASCII form of AIGER: the header `aag M I L O A`, a line for each input, latch, output and
-/// gate, and then a symbol for each input and each output, the name of its proposition in the automaton. It makes many
-/// small writes, so pass a buffered writer.
+/// Writes a circuit in the ASCII form of AIGER: the header `aag M I L O A`, a line for each input, latch, output and gate, and then a
+/// symbol for each input and each output: the name of its proposition in the automaton. The circuit must have as many inputs as the
+/// environment sets propositions, and as many outputs as the controller sets. It makes many small writes, so pass a buffered writer.
 ///
 /// It fails only with `Write`, if the writer fails; part of the text may have been written by then.
 pub fn write_circuit<W: Write>(
@@ -138,7 +138,7 @@ pub fn write_circuit<W: Write>(
         (circuit_text circuit.now automaton.now)) }
     ensures refused { IfErr result (λ fault. fault ≡ AigerFault.Write) }
 {
-    // asked for what its contract says of the automaton
+    // called only for what its contract says about the automaton
     let _states = automaton.states();
     let latches = circuit.nexts.len() as u32;
     let outputs = circuit.outputs.len() as u32;

@@ -39,7 +39,7 @@ fn are_below(limit: u32, literals: &[u32]) -> bool
     true
 }
 
-/// Whether the parts make a circuit: so many inputs, the literals that latches take over, those of the outputs, and the gates.
+/// Whether the parts make a circuit: the number of inputs, the next literals of the latches, the literals of the outputs, and the gates.
 pub(crate) fn are_parts(inputs: u32, nexts: &[u32], outputs: &[u32], gates: &[Gate]) -> bool
     ensures { MatchBool result (IsKept inputs nexts.now outputs.now gates.now) (IsKept inputs nexts.now outputs.now gates.now → ⊥) }
 {

@@ -1,4 +1,4 @@
-//! The gates of a table, which has a place for each state and input letter: input letters rising, for one state after another.
+//! The gates of a table that has a place for each state and input letter: state by state, and for each state by rising input letters.
 
 ghost use Rattle.std.specs.Prelude.{◌≡◌, ℕ, ◌+◌, ◌*◌, ◌^◌, ◌<◌, ◌≤◌, length, IfOk, slice_index};
 ghost use Rattle.pg_aiger.specs.Construction.{conjunction_of, disjunction_of, each_made, having, bit_columns};
@@ -8,7 +8,7 @@ ghost use Rattle.pg_aiger.specs.Mirrors.Tables.{is_minterm, MeanEach, column_bit
 use crate::draft::Draft;
 use std::alloc::{AllocError, Global};
 
-/// The minterm of a place of the table: the state's bits, and then the input letter's.
+/// Makes the minterm of a place of the table: the state's bits, and then the input letter's. Returns its literal.
 fn minterm(draft: &mut Draft, inputs: u32, latches: u32, place: u32) -> Result<u32, AllocError>
     requires variables { 1 + inputs + latches ≤ draft.old.base }
     requires few { (inputs ≤ 16) × (latches ≤ 16) }
@@ -23,7 +23,7 @@ fn minterm(draft: &mut Draft, inputs: u32, latches: u32, place: u32) -> Result<u
     draft.matching(of_state, 1, inputs, place)
 }
 
-/// The disjunction of the minterms at which the bit of the value is set.
+/// Makes the disjunction of the minterms of the places whose value has the bit, and returns its literal.
 fn column(draft: &mut Draft, literals: &[u32], values: &[u32], bit: u32) -> Result<u32, AllocError>
     requires positive { 0 < draft.old.base }
     requires same { length literals.now ≡ length values.now }
@@ -46,7 +46,7 @@ fn column(draft: &mut Draft, literals: &[u32], values: &[u32], bit: u32) -> Resu
     Ok(literal)
 }
 
-/// The minterms of the first `count` places.
+/// Makes the minterms of the first `count` places, and returns their literals.
 pub(crate) fn minterms(
     alloc: Global,
     draft: &mut Draft,
@@ -72,7 +72,8 @@ pub(crate) fn minterms(
     Ok(literals)
 }
 
-/// For each of the first `width` bits of the values, the low bit first, the disjunction of the minterms at which it is set.
+/// For each of the first `width` bits of the values, the low bit first, makes the disjunction of the minterms of the places whose value
+/// has the bit. Returns their literals.
 pub(crate) fn columns(
     alloc: Global,
     draft: &mut Draft,

@@ -15,7 +15,7 @@ variable literal = literal / 2
 abbrev pub sources : Circuit → List ℕ
 sources circuit = circuit.inputs ++ map Latch.literal circuit.latches
 
--- those, and behind them the literals that gates define
+-- the literals that inputs and latches define, and after them the literals that gates define
 abbrev pub definitions : Circuit → List ℕ
 definitions circuit = sources circuit ++ map Gate.lhs circuit.gates
 
@@ -23,28 +23,28 @@ definitions circuit = sources circuit ++ map Gate.lhs circuit.gates
 abbrev pub uses : Circuit → List ℕ
 uses circuit = map Gate.rhs0 circuit.gates ++ (map Gate.rhs1 circuit.gates ++ (map Latch.next circuit.latches ++ circuit.outputs))
 
--- the variables of literals, and that of the constant
+-- the constant's variable, and the variables of the literals
 abbrev pub known_by : List ℕ → List ℕ
 known_by literals = 0 ∷ map variable literals
 
 abbrev pub IsUsedBy : Gate → ℕ → Type 0
 IsUsedBy gate x = (variable gate.rhs0 ≡ x) ⊎ (variable gate.rhs1 ≡ x)
 
--- each gate is over variables that are known, or are those of gates before it, and makes a new one known
+-- each gate uses only variables that are known, or that gates before it define, and makes a new one known
 abbrev pub AreOrdered : List ℕ → List Gate → Type 0
 AreOrdered known [] = Unit {0}
 AreOrdered known (gate ∷ rest) =
     (Contains known (variable gate.lhs) → ⊥) × ((x : ℕ) → IsUsedBy gate x → Contains known x)
     × AreOrdered (variable gate.lhs ∷ known) rest
 
--- a literal that can define a variable: that of a variable from 1 to the greatest, and not negated
+-- a literal that can define a variable: it isn't negated, and its variable is from 1 to the greatest
 pub record IsPlain (greatest literal : ℕ) : Type 0 where
   pub even : literal % 2 ≡ 0
   pub some : 0 < literal
   pub within : variable literal ≤ greatest
 
--- Inputs, latches and gates define variables of their own, no literal is used that none of them defines, and the gates can be put into
--- an order in which each is over what is known before it.
+-- Inputs, latches and gates define variables of their own, each variable that is used is the constant's or one of those, and the gates
+-- can be put into an order in which each uses only variables that are known before it.
 pub record IsAcyclic (circuit : Circuit) : Type 0 where
   pub plain : All (IsPlain circuit.greatest) (definitions circuit)
   pub distinct : AllPairs (λ x y. x ≢ y) (map variable (definitions circuit))
@@ -53,17 +53,17 @@ pub record IsAcyclic (circuit : Circuit) : Type 0 where
   pub same : (gate : Gate) → Contains ordered gate ↔ Contains circuit.gates gate
   pub in_order : AreOrdered (known_by (sources circuit)) ordered
 
--- the variable stands in the list, and before that already
+-- the variable occurs in the list, and once more before that
 abbrev pub IsTwice : List ℕ → ℕ → Type 0
 IsTwice xs x = (before : List ℕ) × (after : List ℕ) × (xs ≡ before ++ x ∷ after) × Contains before x
 
--- Each of these variables is that of a gate over one of them. So no order of the gates has a first of them.
+-- Each of these variables is defined by a gate that uses one of them. So no order of the gates has a first of them.
 abbrev pub IsKnot : Circuit → (ℕ → Bool) → Type 0
 IsKnot circuit among =
     (x : ℕ) → among x ≡ true
     → (gate : Gate) × (y : ℕ) × Contains circuit.gates gate × (variable gate.lhs ≡ x) × IsUsedBy gate y × (among y ≡ true)
 
--- what each fault says of a circuit
+-- what each fault says about a circuit
 abbrev pub IsFaultOf : Circuit → NetlistFault → Type 0
 IsFaultOf circuit OutOfMemory = Unit {0}
 IsFaultOf circuit (NotAVariable literal) = Contains (definitions circuit) literal × (IsPlain circuit.greatest literal → ⊥)
@@ -72,8 +72,8 @@ IsFaultOf circuit (Undefined x) =
     ((literal : ℕ) × Contains (uses circuit) literal × (variable literal ≡ x)) × (Contains (known_by (definitions circuit)) x → ⊥)
 IsFaultOf circuit (Cycle x) = (among : ℕ → Bool) × IsKnot circuit among × (among x ≡ true)
 
--- Each list of input letters has exactly one run, and a longer list's run starts with a shorter one's: as long as both last they say the
--- same of each variable that is defined. A variable that nothing defines is used by nothing, and may have any value.
+-- Each list of input letters has exactly one run, and the run of a longer list starts with the run of a shorter one: as long as both
+-- last, they give each defined variable the same value. Nothing uses a variable that nothing defines, and it can have any value.
 pub record HasOneRun (circuit : Circuit) (input : ℕ → ℕ) : Type 0 where
   pub some : (count : ℕ) → (run : ℕ → Valuation) × IsRun circuit input count run
   pub one : (shorter longer : ℕ) (first second : ℕ → Valuation) → shorter ≤ longer

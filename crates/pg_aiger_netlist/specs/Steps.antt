@@ -4,12 +4,12 @@ use Rattle.pg_aiger.specs.Circuits.{Circuit}
 use Rattle.pg_aiger.specs.Runs.{Valuation, IsStepAt, bit}
 use Rattle.pg_aiger_netlist.specs.Netlists.{known_by, definitions}
 
--- the number whose bits these are, the first the lowest
+-- the number with these bits, the lowest first
 abbrev pub spelt : List Bool → ℕ
 spelt [] = 0
 spelt (b ∷ rest) = (if b then 1 else 0) + 2 * spelt rest
 
--- In the step in which the latches have the bits of the state and the inputs those of the letter, the lane has the values of all
+-- In the step in which the latches have the bits of the state and the inputs the bits of the letter, the lane has the values of all
 -- variables that are defined.
 abbrev pub AreValues : Circuit → ℕ → ℕ → ℕ → List ℕ → Type 0
 AreValues circuit state letter lane words =

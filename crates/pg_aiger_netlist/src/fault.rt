@@ -9,7 +9,7 @@ use thiserror::Error;
 /// Why lists make no netlist.
 #[derive(Clone, Copy, Debug, PartialEq, Eq, Error)]
 pub enum NetlistFault {
-    /// A growth was refused.
+    /// Memory ran out.
     #[error("out of memory")]
     OutOfMemory,
     /// The literal of an input, a latch or a gate is negated, constant, or of a variable above the greatest.

@@ -32,7 +32,7 @@ fn uses_marked(row: &[bool], gate: &Gate) -> bool
     row[(gate.rhs0 / 2) as usize] || row[(gate.rhs1 / 2) as usize]
 }
 
-/// Marks the variables of gates that use a marked one.
+/// Marks the variables of the gates that use a marked variable.
 fn mark_gates(row: &mut [bool], ordered: &[Gate])
     requires { All (IsWithin (length row.old)) ordered.now }
     ensures size { length row.new ≡ length row.old }
@@ -44,7 +44,7 @@ fn mark_gates(row: &mut [bool], ordered: &[Gate])
     }
 }
 
-/// The place of the first literal whose variable is marked.
+/// Returns the place of the first literal whose variable is marked.
 fn first_marked(row: &[bool], literals: &[u32]) -> Option<usize>
     requires { All (λ literal. literal / 2 < length row.now) literals.now }
     ensures some { IfSome result (λ k. (k < length literals.now) × (marked row.now (variable (slice_index_or literals.now k 0)) ≡ true)) }
@@ -59,8 +59,8 @@ fn first_marked(row: &[bool], literals: &[u32]) -> Option<usize>
 }
 
 impl Netlist {
-    /// The place of an output that hears an input: it is one, or gates lead from one to it. If there is none, the outputs depend on the
-    /// latches alone, as those of a Moore machine do.
+    /// Returns the place of an output that hears an input: the output is an input, or gates lead to it from one. If there is none, the
+    /// outputs depend on the latches alone, as the outputs of a Moore machine do. It fails only if memory runs out.
     pub fn hearing_output(&self, alloc: Global) -> Result<Option<usize>, AllocError>
         ensures some { IfOk result (λ o. IfSome o (λ k. (k < length self.now.outputs) × Hears self.now (variable (output_at self.now k)))) }
         ensures none { IfOk result (λ o. IsNone o → IsMoore self.now) }

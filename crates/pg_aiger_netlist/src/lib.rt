@@ -1,4 +1,4 @@
-//! Circuits of gates and latches in the AIGER format, from any tool: the gates may be in any order that has no cycle.
+//! Circuits of gates and latches in the AIGER format, from any tool: the gates may come in any order, as long as they have no cycle.
 #![tactic(auto)]
 
 mod fault;

@@ -1,4 +1,4 @@
-//! Which variables are defined, and which literals are used.
+//! The variables that are defined, and the literals that are used.
 
 ghost use Rattle.std.specs.Prelude.{◌≡◌, ◌≢◌, ◌+◌, ◌↔◌, ◌++◌, true, map, length, slice_index_or, All, IfOk, IfErr, IsTrue, OnOk};
 ghost use Rattle.std.specs.List.{AllPairs};
@@ -11,7 +11,7 @@ use crate::fault::NetlistFault;
 use pg_aiger::{Gate, Latch};
 use std::alloc::{AllocError, Global};
 
-/// The literals of inputs and latches.
+/// Returns the literals of the inputs, and then of the latches.
 pub(crate) fn sources_of(
     alloc: Global,
     inputs: &[u32],
@@ -26,7 +26,7 @@ pub(crate) fn sources_of(
     Ok(literals)
 }
 
-/// Those literals, and behind them those of gates.
+/// Returns the source literals, and after them the literals of the gates.
 pub(crate) fn definitions_of(
     alloc: Global,
     sources: &[u32],
@@ -41,7 +41,7 @@ pub(crate) fn definitions_of(
     Ok(literals)
 }
 
-/// The literals that gates, latches and outputs use.
+/// Returns the literals that gates, latches and outputs use.
 pub(crate) fn uses_of(
     alloc: Global,
     gates: &[Gate],
@@ -79,7 +79,8 @@ pub(crate) fn is_marked(row: &[bool], x: u32) -> bool
     (x as usize) < row.len() && row[x as usize]
 }
 
-/// Marks of the constant and of the variables that the literals define.
+/// Returns a row that marks the constant and the variables that the literals define. It fails at the first literal that can define no
+/// variable, or whose variable is already marked.
 pub(crate) fn marked(
     alloc: Global,
     greatest: u32,
@@ -106,7 +107,7 @@ pub(crate) fn marked(
     Ok(row)
 }
 
-/// That each literal's variable is marked.
+/// Checks that each literal's variable is marked. It fails with `Undefined` at the first that isn't.
 pub(crate) fn check_uses(row: &[bool], uses: &[u32]) -> Result<(), NetlistFault>
     ensures used { OnOk result (All (λ literal. marked row.now (variable literal) ≡ true) uses.now) }
     ensures fault { IfErr result (IsUseFault row.now uses.now) }

@@ -19,7 +19,7 @@ pub struct Netlist {
     pub(crate) latches: Vec<Latch>,
     pub(crate) outputs: Vec<u32>,
     pub(crate) gates: Vec<Gate>,
-    /// The gates, each behind those whose variables it uses.
+    /// The gates, each after the gates whose variables it uses.
     pub(crate) ordered: Vec<Gate>,
 }
 
@@ -35,11 +35,12 @@ impl Model for Netlist {
 }
 
 impl Netlist {
-    /// Makes a circuit of these lists, if it has no cycle. Inputs and outputs keep their order; the gates may come in
-    /// any order.
+    /// Makes a circuit of these lists, if it has no cycle. No variable is above `greatest`. Inputs and outputs keep their order; the
+    /// gates may come in any order.
     ///
-    /// It returns the first of these faults: a literal can define no variable, a variable is defined twice, a variable
-    /// is used and not defined, gates depend on one another, or memory runs out.
+    /// It fails at the first literal that can define no variable (`NotAVariable`) or defines one for the second time (`DefinedTwice`);
+    /// then if a variable is used and not defined (`Undefined`); then if gates depend on one another (`Cycle`); or if memory runs out
+    /// (`OutOfMemory`).
     pub fn new(
         alloc: Global,
         greatest: u32,

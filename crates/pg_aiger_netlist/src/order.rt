@@ -1,4 +1,4 @@
-//! Gates in an order in which each is over what is known before it.
+//! Gates in an order in which each uses only variables that are known before it.
 
 ghost use Rattle.std.specs.Prelude.{◌≡◌, ℕ, ◌<◌, Bool, List, All, Contains, length, IfOk, IfErr, OnOk};
 ghost use Rattle.pg_aiger.specs.declared.gate.Gate.{Gate};
@@ -10,8 +10,8 @@ use crate::propose::{in_cycle, proposed_order};
 use pg_aiger::Gate;
 use std::alloc::{AllocError, Global};
 
-/// Puts each gate whose literals are known behind those in order, one after another, and gives those that wait. A gate whose variable is
-/// known already is passed over.
+/// Appends each gate whose literals are known to the gates in order, one after another, and returns the gates that wait. It skips a gate
+/// whose variable is known already.
 fn place(
     alloc: Global,
     known: &mut [bool],
@@ -36,7 +36,7 @@ fn place(
     Ok(waiting)
 }
 
-/// The gates at these places.
+/// Returns the gates at these places, and skips places past the last gate.
 fn picked(alloc: Global, gates: &[Gate], places: &[u32]) -> Result<Vec<Gate>, AllocError>
     ensures { IfOk result (λ list. All (Contains gates.now) list.items) }
 {
@@ -50,8 +50,7 @@ fn picked(alloc: Global, gates: &[Gate], places: &[u32]) -> Result<Vec<Gate>, Al
     Ok(list)
 }
 
-/// Puts those that wait behind the others, as far as that goes in the order that is proposed. However bad a proposal may be, it costs time
-/// alone.
+/// Appends the waiting gates to the others, as far as the proposed order allows. However bad a proposal is, it costs only time.
 fn place_rest(
     alloc: Global,
     known: &mut [bool],
@@ -71,7 +70,8 @@ fn place_rest(
     Ok(())
 }
 
-/// All gates in order, if there is one, where these variables are known at first. Gates that stand in order already take one pass.
+/// Returns all gates in order, if there is one, where the variables of `known` are known at first. Otherwise it fails with `Cycle`. Gates
+/// that are in order already take one pass.
 pub(crate) fn order_of(
     alloc: Global,
     known: &mut [bool],

@@ -1,4 +1,4 @@
-//! Circuits in their order as netlists.
+//! Netlists of circuits whose variables are in order.
 
 ghost use Rattle.std.specs.Prelude.{◌≡◌, ◌+◌, ◌≤◌, length, IfOk};
 ghost use Rattle.pg_aiger.specs.Circuits.{literals_from, latches_from};
@@ -8,7 +8,7 @@ use crate::netlist::Netlist;
 use pg_aiger::{Circuit, Latch};
 use std::alloc::{AllocError, Global};
 
-/// The literals of variables one after another.
+/// Returns the literals of `count` consecutive variables, from `first` on.
 fn literals_of(alloc: Global, first: u32, count: u32) -> Result<Vec<u32>, AllocError>
     requires { first + count ≤ 1073741824 }
     ensures { IfOk result (λ list. list.items ≡ literals_from first count) }
@@ -20,7 +20,7 @@ fn literals_of(alloc: Global, first: u32, count: u32) -> Result<Vec<u32>, AllocE
     Ok(list)
 }
 
-/// Latches of variables one after another, and what each takes over.
+/// Returns latches of consecutive variables, from `first` on, with the next literal of each.
 fn latches_of(alloc: Global, first: u32, nexts: &[u32]) -> Result<Vec<Latch>, AllocError>
     requires { first + length nexts.now ≤ 1073741824 }
     ensures { IfOk result (λ list. list.items ≡ latches_from first nexts.now) }
@@ -36,7 +36,7 @@ fn latches_of(alloc: Global, first: u32, nexts: &[u32]) -> Result<Vec<Latch>, Al
 }
 
 impl Netlist {
-    /// A circuit in its order as a netlist: the same circuit.
+    /// Returns the netlist of a circuit whose variables are in order: the same circuit.
     pub fn of(alloc: Global, circuit: &Circuit) -> Result<Netlist, NetlistFault>
         ensures { IfOk result (λ netlist. netlist ≡ circuit.now) }
     {

@@ -1,23 +1,24 @@
-//! An order of gates, and a gate in a cycle. Nothing is promised of what is found here but that it is found safely and in the end.
+//! Proposals: an order of gates, and a gate in a cycle. Nothing is promised about a proposal, except that it is found safely and that the
+//! search ends.
 
 use pg_aiger::Gate;
 use std::alloc::{AllocError, Global};
 
 const NONE: u32 = 4_294_967_295;
 
-/// The item at a place, and `NONE` past the last.
+/// Returns the item at a place, or `NONE` past the last.
 fn at(items: &[u32], place: u32) -> u32 {
     items.get(place as usize).copied().unwrap_or(NONE)
 }
 
-/// Puts an item to a place, if that is there.
+/// Puts an item at a place, if there is such a place.
 fn put(items: &mut [u32], place: u32, item: u32) {
     if (place as usize) < items.len() {
         items[place as usize] = item;
     }
 }
 
-/// The place of the gate that defines each variable.
+/// Returns the place of the gate that defines each variable, or `NONE` if no gate does.
 fn definers(alloc: Global, variables: usize, gates: &[Gate]) -> Result<Vec<u32>, AllocError> {
     let mut definers = vec![in alloc; NONE; variables]?;
     for (place, gate) in gates.iter().enumerate() {
@@ -26,13 +27,13 @@ fn definers(alloc: Global, variables: usize, gates: &[Gate]) -> Result<Vec<u32>,
     Ok(definers)
 }
 
-/// For each gate the places of gates that use its variable, as chains: the first use, and behind each the next. Use 2k is the first
-/// literal of gate k, use 2k + 1 its second.
+/// For each gate, the places of the gates that use its variable, as chains: the first use, and after each use the next. Use 2k is the
+/// first literal of gate k, use 2k + 1 its second.
 #[derive(Drop)]
 struct Uses {
     first: Vec<u32>,
     next: Vec<u32>,
-    /// How many literals of each gate wait.
+    /// How many literals of each gate still wait.
     waiting: Vec<u32>,
 }
 
@@ -59,7 +60,7 @@ fn uses_of(alloc: Global, definers: &[u32], gates: &[Gate]) -> Result<Uses, Allo
     Ok(uses)
 }
 
-/// The places of the gates, each behind those whose variables it uses, as far as that goes.
+/// Returns the places of the gates, each after the gates whose variables it uses, as far as possible.
 pub(crate) fn proposed_order(
     alloc: Global,
     variables: usize,
@@ -82,7 +83,7 @@ pub(crate) fn proposed_order(
     Ok(order)
 }
 
-/// Puts behind the order the gates that waited for this one alone.
+/// Appends to the order the gates that waited only for this one.
 fn release(uses: &mut Uses, order: &mut Vec<u32>, place: u32) -> Result<(), AllocError> {
     let mut number = at(&uses.first, place);
     for _ in 0..uses.next.len() {
@@ -99,7 +100,8 @@ fn release(uses: &mut Uses, order: &mut Vec<u32>, place: u32) -> Result<(), Allo
     Ok(())
 }
 
-/// The place of a gate in a cycle, if each waits for another of them: as many steps from gate to gate lead into one.
+/// Returns the place of a gate in a cycle, if each gate waits for another of them: as many steps from gate to gate as there are gates
+/// lead into a cycle.
 pub(crate) fn in_cycle(
     alloc: Global,
     variables: usize,

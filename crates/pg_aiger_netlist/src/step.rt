@@ -17,7 +17,7 @@ use std::alloc::{AllocError, Global};
 
 const ALL: u64 = 18_446_744_073_709_551_615;
 
-/// The values of an input, in lane i that of the letter `first` + i.
+/// Returns the word of an input: lane i has its value in the letter `first` + i.
 fn input_word(first: u32, input: u32) -> u64
     requires input { input < 16 }
     requires first { first < 2147483648 }
@@ -32,7 +32,7 @@ fn input_word(first: u32, input: u32) -> u64
     word
 }
 
-/// The word of a literal.
+/// Returns the word of a literal.
 fn word_at(values: &[u64], literal: u32) -> u64
     requires { literal / 2 < length values.now }
     ensures { (lane : ℕ) → lane < 64 → bit result lane ≡ lane_value values.now lane literal }
@@ -41,7 +41,7 @@ fn word_at(values: &[u64], literal: u32) -> u64
     if literal % 2 == 1 { !word } else { word }
 }
 
-/// The value of a literal in a lane.
+/// Returns the value of a literal in a lane.
 fn value_at(values: &[u64], literal: u32, lane: u32) -> bool
     requires literal { literal / 2 < length values.now }
     requires lane { lane < 64 }
@@ -50,7 +50,7 @@ fn value_at(values: &[u64], literal: u32, lane: u32) -> bool
     ((values[(literal / 2) as usize] >> lane) % 2 == 1) != (literal % 2 == 1)
 }
 
-/// The number that the literals spell in a lane, the first the lowest bit.
+/// Returns the number that the literals spell in a lane, the first one as the lowest bit.
 fn number_at(values: &[u64], literals: &[u32], lane: u32) -> u32
     requires few { length literals.now ≤ 16 }
     requires literals { All (λ literal. literal / 2 < length values.now) literals.now }
@@ -73,7 +73,7 @@ fn number_at(values: &[u64], literals: &[u32], lane: u32) -> u32
     }
 }
 
-/// Puts the words of the inputs into the row.
+/// Writes the words of the inputs into the row.
 fn put_inputs(row: &mut [u64], inputs: &[u32], first: u32)
     requires few { length inputs.now ≤ 16 }
     requires first { first < 2147483648 }
@@ -86,7 +86,7 @@ fn put_inputs(row: &mut [u64], inputs: &[u32], first: u32)
     }
 }
 
-/// Puts the words of the latches into the row, which have the same value in each lane.
+/// Writes the words of the latches into the row. A latch has the same value in each lane.
 fn put_latches(row: &mut [u64], lines: &[Latch], latches: &[bool])
     requires many { length latches.now ≡ length lines.now }
     requires within { All (λ latch. latch.literal / 2 < length row.old) lines.now }
@@ -99,7 +99,7 @@ fn put_latches(row: &mut [u64], lines: &[Latch], latches: &[bool])
     }
 }
 
-/// Puts the words of gates in order into the row.
+/// Writes the words of gates in order into the row.
 fn put_gates(row: &mut [u64], ordered: &[Gate])
     requires { All (IsWithin (length row.old)) ordered.now }
     ensures { (circuit : Circuit) (state first : ℕ) → IsAcyclic circuit → IsOrder circuit ordered.now
@@ -111,7 +111,7 @@ fn put_gates(row: &mut [u64], ordered: &[Gate])
     }
 }
 
-/// The values that latches take over.
+/// Writes into `latches` the values that they take over in a lane.
 fn take_latches(row: &[u64], lines: &[Latch], lane: u32, latches: &mut [bool])
     requires lane { lane < 64 }
     requires many { length latches.old ≡ length lines.now }
@@ -125,21 +125,22 @@ fn take_latches(row: &[u64], lines: &[Latch], lane: u32, latches: &mut [bool])
 }
 
 impl Netlist {
-    /// A row with room for the values of all variables. Fails only if memory runs out.
+    /// Returns a row with room for the values of all variables: a word for each variable from 0 to the greatest. It fails only if memory
+    /// runs out.
     pub fn row(&self, alloc: Global) -> Result<Vec<u64>, AllocError>
         ensures { IfOk result (λ row. length row.items ≡ self.now.greatest + 1) }
     {
         vec![in alloc; 0; self.greatest as usize + 1]
     }
 
-    /// The number of inputs.
+    /// Returns the number of inputs.
     pub fn inputs(&self) -> usize
         ensures { result ≡ length self.now.inputs }
     {
         self.inputs.len()
     }
 
-    /// The number of latches.
+    /// Returns the number of latches.
     pub fn latches(&self) -> usize
         ensures count { result ≡ length self.now.latches }
         ensures acyclic { IsAcyclic self.now }
@@ -147,15 +148,16 @@ impl Netlist {
         self.latches.len()
     }
 
-    /// The number of outputs.
+    /// Returns the number of outputs.
     pub fn outputs(&self) -> usize
         ensures { result ≡ length self.now.outputs }
     {
         self.outputs.len()
     }
 
-    /// Computes 64 steps from the same latches. Lane i of the row gets the values of all variables for the input letter
-    /// `first` + i; bit j of a letter is the j-th input.
+    /// Computes 64 steps from the same latches. Lane i of the row, bit i of each word, gets the values of all variables for the input
+    /// letter `first` + i; bit j of a letter is the j-th input. `latches` has a value for each latch, and `row` has the length that
+    /// `Netlist::row` gives it. There must be at most 16 inputs, and `first` must be below 2,147,483,648.
     pub fn step(&self, latches: &[bool], first: u32, row: &mut [u64])
         requires few { length self.now.inputs ≤ 16 }
         requires latches { length latches.now ≡ length self.now.latches }
@@ -169,7 +171,8 @@ impl Netlist {
         put_gates(row, &self.ordered);
     }
 
-    /// The output letter in a lane; bit j is the j-th output.
+    /// Returns the output letter in a lane, from 0 to 63, of a row that `step` filled; bit j is the j-th output. There must be at most 16
+    /// outputs.
     pub fn output(&self, row: &[u64], lane: u32) -> u32
         requires few { length self.now.outputs ≤ 16 }
         requires lane { lane < 64 }
@@ -180,7 +183,7 @@ impl Netlist {
         number_at(row, &self.outputs, lane)
     }
 
-    /// Writes the latches after the step in a lane.
+    /// Writes into `latches` the values of the latches after the step in a lane, from 0 to 63, of a row that `step` filled.
     pub fn next(&self, row: &[u64], lane: u32, latches: &mut [bool])
         requires lane { lane < 64 }
         requires latches { length latches.old ≡ length self.now.latches }

@@ -28,7 +28,7 @@ unfoldable pub use Rattle.pg_aiger_reader.specs.Mirrors.Headers.{header_of, head
 unfoldable pub use Rattle.pg_aiger_reader.specs.Mirrors.Reading.{latches_at, reset_fault, text_at, text_fault}
 pub use Rattle.std.proofs.lemmas.List.Sums.{prefix_len_stops}
 pub use Rattle.std.proofs.lemmas.Slice.Eq.{bytes_eq-Decides}
-pub use Rattle.std.proofs.lemmas.List.Elements.{Contains-append_left, Contains-get_or, Contains-push, Contains-push_cases}
+pub use Rattle.std.proofs.lemmas.List.Elements.{Contains-append_left, Contains-append_right, Contains-get_or, Contains-push, Contains-push_cases}
 pub use Rattle.std.specs.Prelude.{Contains}
 pub use Rattle.std.proofs.lemmas.List.{get_or-map, get_or_append_left, get_or_default, get_or_push, take_more}
 pub use Rattle.std.proofs.lemmas.List.Elements.{Decides-contains, contains_decides}

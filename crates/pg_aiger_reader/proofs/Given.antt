@@ -1,10 +1,10 @@
 -- Names that are given places, one after another.
-use Rattle.pg_aiger_reader.proofs.Common.{◌≡◌, ◌⊎◌, ℕ, zero, suc, ◌+◌, ◌<◌, false, List, [], ◌∷◌, ◌++◌, length, get_or, refl, sym, ap, subst}
+use Rattle.pg_aiger_reader.proofs.Common.{◌≡◌, ◌≢◌, ◌⊎◌, ℕ, zero, suc, ◌+◌, ◌<◌, false, List, [], ◌∷◌, ◌++◌, length, get_or, refl, sym, ap, subst}
 use Rattle.pg_aiger_reader.proofs.Common.{◌∙◌, arith, inl, inr, cases_lt, Contains}
 use Rattle.pg_aiger_reader.proofs.Common.{Contains-get_or, length-append, get_or_append_left, get_or_push, get_or_default, map}
 use Rattle.std.specs.Prelude.{All, Result, Ok, MatchResult}
 use Rattle.pg_aiger.specs.CircuitText.{Kind, Symbol}
-use Rattle.pg_aiger_reader.specs.Ties.{IsNamed, AreTied, HasPlace, IsNext, IsLeft, IsAt, IsFirstName, literals_at}
+use Rattle.pg_aiger_reader.specs.Ties.{IsNamed, AreTied, HasPlace, IsNext, IsLeft, IsUnknown, AreKnown, IsFirstUnknown, literals_at}
 use Rattle.pg_aiger_reader.specs.Mirrors.Places.{IsPlaceOf, AreGiven, texts}
 use Rattle.pg_aiger_reader.proofs.Common.{Bor, get_or-map, length-map, map_push, take, take_more}
 use Rattle.pg_aiger_reader.specs.Views.{symbol_in}
@@ -68,9 +68,10 @@ has_place kind count symbols names so_many places given k below = (
 -- ---- all names
 
 pub tied_by_names : (kind : Kind) (symbols : List Symbol) (names : List (List ℕ)) (literals places tied : List ℕ)
-    → AreGiven kind (length literals) symbols names (length names) places → ((p : ℕ) → p < length literals → Contains places p)
+    → AreGiven kind (length literals) symbols names (length names) places
+    → AreKnown kind (length literals) symbols names → ((p : ℕ) → p < length literals → Contains places p)
     → tied ≡ literals_at literals places → AreTied false kind symbols names literals tied
-tied_by_names kind symbols names literals places tied given none e = (
+tied_by_names kind symbols names literals places tied given known none e = (
   places,
   record {
     all = given.all;
@@ -80,6 +81,7 @@ tied_by_names kind symbols names literals places tied given none e = (
         let all = given.all in
         given.apart i j before (omega arith)
         (get_or_default places i 0 d (omega arith) ∙ same ∙ get_or_default places j d 0 below);
+    known = known;
     none_left = none;
   },
   e,
@@ -143,15 +145,30 @@ pub symbol_at : (symbols : List memory.Symbol) (i : ℕ) (d : Symbol) → i < le
     → get_or (map symbol_in symbols) i d ≡ symbol_in (get_or symbols i no_symbol)
 symbol_at symbols i d within = get_or-map symbol_in symbols i no_symbol d within
 
--- ---- the first symbol of a place
+-- ---- symbols that give other names
 
-pub first_is : (kind : Kind) (place : ℕ) (symbols : List Symbol) (i : ℕ) (d : Symbol) → i < length symbols
-    → ((k : ℕ) → k < i → ¬ IsAt kind place (get_or symbols k d)) → IsAt kind place (get_or symbols i d)
-    → IsFirstName kind place symbols (get_or symbols i d).name
-first_is kind place [] i d below none is = absurd (omega arith)
-first_is kind place (s ∷ symbols) zero d below none is = inl (is, refl)
-first_is kind place (s ∷ symbols) (suc i) d below none is =
-    inr (none 0 (omega arith), first_is kind place symbols i d (omega arith) (λ k short. none (suc k) (omega arith)) is)
+pub unknown_first : (kind : Kind) (count : ℕ) (names : List (List ℕ)) (symbols : List Symbol) (i : ℕ) (d : Symbol) → i < length symbols
+    → ((k : ℕ) → k < i → ¬ IsUnknown kind count names (get_or symbols k d)) → IsUnknown kind count names (get_or symbols i d)
+    → IsFirstUnknown kind count names symbols (get_or symbols i d)
+unknown_first kind count names [] i d below none is = absurd (omega arith)
+unknown_first kind count names (s ∷ symbols) zero d below none is = inl (is, refl)
+unknown_first kind count names (s ∷ symbols) (suc i) d below none is =
+    inr (none 0 (omega arith), unknown_first kind count names symbols i d (omega arith) (λ k short. none (suc k) (omega arith)) is)
+
+-- where no symbol gives another name, none gives one to a place that is left
+pub none_there : (kind : Kind) (count : ℕ) (symbols : List Symbol) (names : List (List ℕ)) (place : ℕ) → IsLeft kind count symbols names place
+    → AreKnown kind count symbols names → (s : Symbol) → Contains symbols s → s.kind ≡ kind
+    → s.position ≢ place
+none_there kind count symbols names place left known s there of_kind at = known s there (record {
+  of_kind = of_kind;
+  within = subst (λ p. p < count) (sym at) left.within;
+  other = λ (k, below, is). left.left k below (s, there, record {
+    of_kind = of_kind;
+    named = sym (get_or_default names k [] s.name below ∙ is);
+    at = at;
+    within = left.within;
+  });
+})
 
 -- ---- a result that is known
 

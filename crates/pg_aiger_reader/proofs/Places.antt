@@ -3,8 +3,7 @@ use Rattle.pg_aiger_reader.proofs.Common.{◌≡◌, ◌⊎◌, ℕ, ◌<◌, �
 use Rattle.pg_aiger_reader.proofs.Common.{refl, sym, subst, ◌∙◌, inl, inr, eqb, ltb, bytes_eq, eqb-true, eqb-false, ltb-true, lt-ltb}
 use Rattle.pg_aiger_reader.proofs.Common.{cases_Bool, and_parts, bytes_eq-Decides, Contains-push, Contains-push_cases, Contains-append_left}
 use Rattle.pg_aiger.specs.CircuitText.{Kind, input, latch, output, Symbol}
-use Rattle.pg_aiger_reader.proofs.Common.{eq-eqb}
-use Rattle.pg_aiger_reader.specs.Ties.{Gives, IsAt, IsNamed}
+use Rattle.pg_aiger_reader.specs.Ties.{Gives, IsNamed}
 use Rattle.pg_aiger_reader.specs.Mirrors.Places.{is_kind, also, noted, IsPlaceOf}
 use Rattle.pg_aiger_reader.specs.declared.ties.Place.{Place}
 use Rattle.pg_aiger_reader.specs.declared.ties.Place.TheVariants.{Missing, At, Twice}
@@ -111,16 +110,3 @@ seen_more kind count before s name found seen =
       | inr e ↦ rw e (seen_other kind count before s name found
           (λ place g. let yes = gives_test kind count name place s g in absurd (let no : true ≡ false = sym yes ∙ e in cc no)) seen)
     ]
-
--- ---- the symbols of a place
-
-pub at_found : (kind : Kind) (place : ℕ) (s : Symbol) → is_kind s.kind kind && eqb s.position place ≡ true → IsAt kind place s
-at_found kind place s e =
-    let both = and_parts (is_kind s.kind kind) (eqb s.position place) e in
-    (kind_is s.kind kind both.0, eqb-true s.position place both.1)
-
-pub at_not : (kind : Kind) (place : ℕ) (s : Symbol) → is_kind s.kind kind && eqb s.position place ≡ false → ¬ IsAt kind place s
-at_not kind place s e is =
-    let same : is_kind s.kind kind ≡ true = subst (λ k. is_kind k kind ≡ true) (sym is.0) (kind_same kind) in
-    let yes : is_kind s.kind kind && eqb s.position place ≡ true = rw (same, eq-eqb s.position place is.1) refl in
-    let no : true ≡ false = sym yes ∙ e in cc no

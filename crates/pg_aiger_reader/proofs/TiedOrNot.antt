@@ -1,10 +1,10 @@
 -- What is tied is not refused.
-use Rattle.pg_aiger_reader.proofs.Common.{◌≡◌, ◌∙◌, ℕ, ◌<◌, Bool, true, false, List, [], length}
-use Rattle.pg_aiger_reader.proofs.Common.{get_or, refl, sym, subst, arith, inl, inr, cases_lt, Contains, get_or_default}
+use Rattle.pg_aiger_reader.proofs.Common.{◌≡◌, ◌∙◌, ℕ, ◌<◌, Bool, true, false, List, [], ◌∷◌, length}
+use Rattle.pg_aiger_reader.proofs.Common.{get_or, refl, sym, subst, arith, inl, inr, cases_lt, Contains, Contains-append_right, get_or_default}
 use Rattle.pg_aiger.specs.CircuitLayout.{input_names, output_names}
 use Rattle.pg_aiger.specs.CircuitText.{Kind, input, latch, output, Symbol}
 use Rattle.pg_aiger_reader.specs.Laws.{TiedOrRefused}
-use Rattle.pg_aiger_reader.specs.Ties.{IsNamed, AreNamed, AreTied, IsLeft, IsSideFault, IsNameless}
+use Rattle.pg_aiger_reader.specs.Ties.{IsNamed, AreNamed, AreTied, IsLeft, IsUnknown, IsFirstUnknown, IsSideFault, IsNameless}
 use Rattle.pg_aiger_reader.specs.declared.fault.SideFault.{SideFault}
 use Rattle.pg_aiger_reader.specs.declared.fault.SideFault.TheVariants.{Missing, Twice, Shared, Nameless, Extra, Short, Long}
 use Rattle.pg_aiger_reader.specs.declared.fault.TieFault.TheVariants.{OutOfMemory, NoSymbols, Inputs, Outputs}
@@ -23,6 +23,15 @@ none_is_left : (kind : Kind) (count : ℕ) (symbols : List Symbol) (names : List
 none_is_left kind count symbols names places place named left =
     let own = owner kind count symbols names places named place left.within in
     left.left own.0 own.1 own.2
+
+unknown_among : (kind : Kind) (count : ℕ) (names : List (List ℕ)) (symbols : List Symbol) (s : Symbol) → IsFirstUnknown kind count names symbols s
+    → Contains symbols s × IsUnknown kind count names s
+unknown_among kind count names [] s first = absurd first
+unknown_among kind count names (t ∷ symbols) s (inl (is, e)) =
+    subst (λ u. Contains (t ∷ symbols) u × IsUnknown kind count names u) e ((0, omega arith, refl), is)
+unknown_among kind count names (t ∷ symbols) s (inr (other, first)) =
+    let among = unknown_among kind count names symbols s first in
+    (Contains-append_right (t ∷ []) symbols s among.0, among.1)
 
 tied_or_not : (by_place : Bool) (kind : Kind) (symbols : List Symbol) (names : List (List ℕ)) (literals tied : List ℕ) (fault : SideFault)
     → AreTied by_place kind symbols names literals tied → IsSideFault by_place kind (length literals) symbols names fault → ⊥
@@ -48,7 +57,9 @@ tied_or_not false kind symbols names literals tied (Shared place one other) t f 
 tied_or_not false kind symbols names literals tied (Nameless place) t f =
     none_is_left kind (length literals) symbols names t.0 place t.1 f.0
 tied_or_not false kind symbols names literals tied (Extra place name) t f =
-    none_is_left kind (length literals) symbols names t.0 place t.1 f.0
+    let (s, first, at, named) = f.1 in
+    let among = unknown_among kind (length literals) names symbols s first in
+    t.1.known s among.0 among.1
 tied_or_not false kind symbols names literals tied _ t f = f
 
 -- where something is tied by its name, a symbol of its kind is there

@@ -26,18 +26,19 @@ reader_fault_text TooLarge = codes "circuit too large"
 reader_fault_text (LeftOut section) = codes "the circuit has " ++ (section_text section ++ codes ", which are not read")
 reader_fault_text (Reset position) = codes "latch " ++ (decimal position ++ codes " does not start at 0")
 
--- a byte that doesn't print
+-- a control character of ASCII
 abbrev pub is_control : ℕ → Bool
 is_control byte = nat_lt byte 32 || byte == 127
 
--- a byte that prints as it is, but a backslash twice; any other as a backslash, `x` and its two digits in base 16
+-- a byte as it is shown: a backslash twice, another byte that prints as it is, and any other as a backslash, `x` and its two digits in
+-- base 16
 abbrev pub escaped : ℕ → List ℕ
 escaped byte =
     if byte == 92 then codes "\\\\"
     else (if nat_lt byte 32 || nat_lt 126 byte then codes "\\x" ++ (digit_glyph false (byte / 16) ∷ digit_glyph false (byte % 16) ∷ [])
     else byte ∷ [])
 
--- the name as it is, if it is UTF-8 and all of it prints
+-- the name as it is, if it is UTF-8 without control characters; else with escapes
 abbrev pub name_text : List ℕ → List ℕ
 name_text name = if is_utf8 name && not (list_any is_control name) then name else flat_map escaped name
 
@@ -49,7 +50,7 @@ side_fault_text word (Shared place one other) =
     word ++ (codes " " ++ (decimal place ++ (codes " is named " ++ (name_text one.bytes.items ++ (codes " and " ++ name_text other.bytes.items)))))
 side_fault_text word (Nameless place) = word ++ (codes " " ++ (decimal place ++ codes " has no symbol"))
 side_fault_text word (Extra place name) =
-    codes "the circuit has an " ++ (word ++ (codes " more: " ++ (word ++ (codes " " ++ (decimal place ++ (codes ", named " ++ name_text name.bytes.items))))))
+    word ++ (codes " " ++ (decimal place ++ (codes " is named " ++ (name_text name.bytes.items ++ (codes ", but the automaton has no such " ++ word)))))
 side_fault_text word (Short name) = codes "the circuit has no " ++ (word ++ (codes " for " ++ name_text name.bytes.items))
 side_fault_text word (Long place) = codes "the circuit has an " ++ (word ++ (codes " more: " ++ (word ++ (codes " " ++ decimal place))))
 

@@ -10,7 +10,7 @@ use Rattle.pg_aiger_reader.specs.declared.item.Form.{Form}
 use Rattle.pg_aiger_reader.specs.declared.item.LatchLine.{LatchLine}
 use Rattle.pg_aiger_reader.specs.Texts.{BeginsLine, form_text, HasBody, IsBody, SpellsNone}
 
--- Of the numbers B, C, J and F, as far as they are there, this is the first that isn't 0.
+-- Of the numbers B, C, J and F, as far as they are given, this section's is the first that isn't 0.
 abbrev pub IsLeftOut : Section → List ℕ → Type 0
 IsLeftOut BadStates (b ∷ counts) = b ≢ 0
 IsLeftOut Constraints (b ∷ c ∷ counts) = (b ≡ 0) × (c ≢ 0)
@@ -18,13 +18,13 @@ IsLeftOut Justice (b ∷ c ∷ j ∷ counts) = (b ≡ 0) × (c ≡ 0) × (j ≢ 
 IsLeftOut Fairness (b ∷ c ∷ j ∷ f ∷ counts) = (b ≡ 0) × (c ≡ 0) × (j ≡ 0) × (f ≢ 0)
 IsLeftOut _ _ = ⊥
 
--- what a header with these numbers M and O, and these behind A, is refused for by name
+-- the named fault of a header with these numbers M and O, and these numbers after A
 abbrev pub IsHeaderFault : ℕ → ℕ → List ℕ → ReaderFault → Type 0
 IsHeaderFault m o counts (LeftOut section) = IsLeftOut section counts
 IsHeaderFault m o counts TooLarge = AllByRecursion (λ n. n ≡ 0) counts × ((16777216 < m) ⊎ (16777216 < o))
 IsHeaderFault m o counts _ = ⊥
 
--- The bytes begin with a header, perhaps behind a line `REALIZABLE` or `UNREALIZABLE`, which is refused for this.
+-- The bytes begin with a header, perhaps after a line `REALIZABLE` or `UNREALIZABLE`, that is refused with this fault.
 pub record HasHeaderFault (bytes : List ℕ) (fault : ReaderFault) : Type 0 where
   pub form : Form
   pub text : List ℕ
@@ -46,7 +46,7 @@ IsFirstReset [] place = ⊥
 IsFirstReset (l ∷ lines) zero = l.reset ≢ 0
 IsFirstReset (l ∷ lines) (suc place) = (l.reset ≡ 0) × IsFirstReset lines place
 
--- The bytes begin as those of a circuit, up to the symbols, but for a latch.
+-- The bytes begin as a circuit's do, up to the symbols, except that the latch at this place is the first that doesn't start at 0.
 pub record HasReset (bytes : List ℕ) (place : ℕ) : Type 0 where
   pub form : Form
   pub body : List ℕ
@@ -57,12 +57,13 @@ pub record HasReset (bytes : List ℕ) (place : ℕ) : Type 0 where
   pub good : IsBody form body circuit lines rest
   pub wrong : IsFirstReset lines place
 
--- the faults that say by their name what is wrong
+-- the faults whose name says what is wrong
 abbrev pub IsNamedFault : List ℕ → ReaderFault → Type 0
 IsNamedFault bytes (Reset place) = HasReset bytes place
 IsNamedFault bytes fault = HasHeaderFault bytes fault
 
--- Memory may run out on each text. Whichever other fault it is, no circuit is spelt. A fault by its name comes exactly if it is so.
+-- Memory may run out on any text. With any other fault, the text spells no circuit. A named fault is returned if and only if the text has
+-- it.
 abbrev pub Refuses : List ℕ → ReaderFault → Type 0
 Refuses bytes OutOfMemory = Unit {0}
 Refuses bytes (Syntax offset) = SpellsNone bytes × ((fault : ReaderFault) → ¬ IsNamedFault bytes fault)

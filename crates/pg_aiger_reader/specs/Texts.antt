@@ -19,7 +19,7 @@ abbrev pub AreItems : {A : Type 0} → (ℕ → List ℕ → A → List ℕ → 
 AreItems IsItem variable bytes [] rest = bytes ≡ rest
 AreItems IsItem variable bytes (x ∷ xs) rest = (middle : List ℕ) × IsItem variable bytes x middle × AreItems IsItem (suc variable) middle xs rest
 
--- a line with its literal; in the binary form nothing, since an input's literal is that of the variable
+-- a line with its literal; in the binary form nothing, since an input's literal is twice the variable
 abbrev pub IsInput : Form → ℕ → List ℕ → ℕ → List ℕ → Type 0
 IsInput Ascii variable bytes literal rest = BeginsLine bytes (literal ∷ []) rest
 IsInput Binary variable bytes literal rest = (literal ≡ 2 * variable) × (bytes ≡ rest)
@@ -28,11 +28,11 @@ IsInput Binary variable bytes literal rest = (literal ≡ 2 * variable) × (byte
 abbrev pub IsOutput : ℕ → List ℕ → ℕ → List ℕ → Type 0
 IsOutput = IsInput Ascii
 
--- what a latch's line may have behind the literal that it takes over: its value at first, which is 0 if it isn't written
+-- the rest of a latch's line after its next literal: its initial value, which is 0 if it isn't written
 abbrev pub IsReset : ℕ → List ℕ → Type 0
 IsReset reset ns = ((ns ≡ []) × (reset ≡ 0)) ⊎ (ns ≡ reset ∷ [])
 
--- a line with its literal, which the binary form leaves out, the literal that it takes over, and perhaps its value at first
+-- a line with its literal, which the binary form leaves out, its next literal, and perhaps its initial value
 abbrev pub IsLatch : Form → ℕ → List ℕ → LatchLine → List ℕ → Type 0
 IsLatch Ascii variable bytes l rest = (reset : List ℕ) × IsReset l.reset reset × BeginsLine bytes (l.literal ∷ l.next ∷ reset) rest
 IsLatch Binary variable bytes l rest =
@@ -66,11 +66,11 @@ abbrev pub IsGate : Form → ℕ → List ℕ → Gate → List ℕ → Type 0
 IsGate Ascii variable bytes gate rest = BeginsLine bytes (gate.lhs ∷ gate.rhs0 ∷ gate.rhs1 ∷ []) rest
 IsGate Binary variable bytes gate rest = IsBinaryGate variable bytes gate rest
 
--- a symbol's line, and it names something of the circuit
+-- a symbol's line; the symbol names something of the circuit
 abbrev pub IsSymbol : Circuit → ℕ → List ℕ → Symbol → List ℕ → Type 0
 IsSymbol circuit _ bytes s rest = Begins bytes (symbol s) rest × (s.position < count_of circuit s.kind) × (s.position < 2 ^ 32)
 
--- nothing, or a line `c` and anything behind it
+-- nothing, or a line `c` and anything after it
 abbrev pub IsComment : List ℕ → Type 0
 IsComment bytes = (bytes ≡ []) ⊎ ((rest : List ℕ) × (bytes ≡ codes "c\n" ++ rest))
 
@@ -78,17 +78,17 @@ abbrev pub form_text : Form → List ℕ
 form_text Ascii = codes "aag "
 form_text Binary = codes "aig "
 
--- In the binary form inputs, latches and gates are all variables that there are; else there may be more.
+-- In the binary form there are no variables but those of inputs, latches and gates; in the ASCII form there may be more.
 abbrev pub AreVariables : Form → ℕ → ℕ → Type 0
 AreVariables Ascii defined greatest = defined ≤ greatest
 AreVariables Binary defined greatest = defined ≡ greatest
 
--- a latch without its value at first
+-- a latch without its initial value
 abbrev pub latch_in : LatchLine → Latch
 latch_in l = record { literal = l.literal; next = l.next }
 
--- The bytes begin with a header `M I L O A`, which may have B, C, J and F behind, all 0; inputs, latches, outputs and gates follow. Latches
--- may be of any value at first.
+-- The bytes begin with a header `M I L O A`, perhaps with B, C, J and F after it, all 0; inputs, latches, outputs and gates follow. The
+-- initial values of latches can be any.
 pub record IsBody (form : Form) (bytes : List ℕ) (circuit : Circuit) (lines : List LatchLine) (behind_gates : List ℕ) : Type 0 where
   pub text : List ℕ
   pub zeros : List ℕ
@@ -110,7 +110,7 @@ pub record IsBody (form : Form) (bytes : List ℕ) (circuit : Circuit) (lines : 
   pub few_variables : circuit.greatest ≤ 16777216
   pub few_outputs : length circuit.outputs ≤ 16777216
 
--- The bytes spell the circuit and the symbols: behind the gates stand symbols, and perhaps a comment. All latches are 0 at first.
+-- The bytes spell the circuit and the symbols: after the gates come symbols, and perhaps a comment. All latches are 0 at first.
 pub record IsText (form : Form) (bytes : List ℕ) (circuit : Circuit) (symbols : List Symbol) : Type 0 where
   pub lines : List LatchLine
   pub behind_gates : List ℕ
@@ -120,17 +120,17 @@ pub record IsText (form : Form) (bytes : List ℕ) (circuit : Circuit) (symbols 
   pub names : AreItems (IsSymbol circuit) 0 behind_gates symbols comment
   pub ends : IsComment comment
 
--- a text, perhaps behind the first line of an answer
+-- a text, perhaps after the first line of an answer
 abbrev pub HasBody : List ℕ → List ℕ → Type 0
 HasBody bytes body = (bytes ≡ body) ⊎ ((bytes ≡ codes "REALIZABLE\n" ++ body) ⊎ (bytes ≡ codes "UNREALIZABLE\n" ++ body))
 
--- The bytes spell them, perhaps behind a line `REALIZABLE` or `UNREALIZABLE`.
+-- The bytes spell the circuit and the symbols, perhaps after a line `REALIZABLE` or `UNREALIZABLE`.
 pub record IsRead (bytes : List ℕ) (circuit : Circuit) (symbols : List Symbol) : Type 0 where
   pub form : Form
   pub body : List ℕ
   pub whole : HasBody bytes body
   pub text : IsText form body circuit symbols
 
--- no circuit is spelt
+-- the bytes spell no circuit
 abbrev pub SpellsNone : List ℕ → Type 0
 SpellsNone bytes = (circuit : Circuit) (symbols : List Symbol) → ¬ IsRead bytes circuit symbols

@@ -1,4 +1,4 @@
--- Which input and which output of a circuit is which proposition of an automaton.
+-- How the inputs and outputs of a circuit match the propositions of an automaton.
 use Rattle.std.specs.Prelude.{◌≡◌, ◌≢◌, ◌⊎◌, ℕ, ◌+◌, ◌<◌, Bool, true, false, List, [], ◌∷◌, length, map, get_or, Contains}
 use Rattle.std.specs.List.{AllPairs}
 use Rattle.pg_hoa_automaton.specs.Automata.{Automaton}
@@ -10,7 +10,7 @@ use Rattle.pg_aiger_reader.specs.declared.fault.SideFault.TheVariants.{Missing, 
 use Rattle.pg_aiger_reader.specs.declared.fault.TieFault.{TieFault}
 use Rattle.pg_aiger_reader.specs.declared.fault.TieFault.TheVariants.{OutOfMemory, NoSymbols, Inputs, Outputs}
 
--- the symbol gives the name to what stands at this place, one of so many of the kind
+-- the symbol gives the name to this place, one of the first `count` of the kind
 pub record Gives (kind : Kind) (count : ℕ) (name : List ℕ) (place : ℕ) (s : Symbol) : Type 0 where
   pub of_kind : s.kind ≡ kind
   pub named : s.name ≡ name
@@ -21,19 +21,29 @@ pub record Gives (kind : Kind) (count : ℕ) (name : List ℕ) (place : ℕ) (s 
 abbrev pub IsNamed : Kind → ℕ → List Symbol → List ℕ → ℕ → Type 0
 IsNamed kind count symbols name place = (s : Symbol) × Contains symbols s × Gives kind count name place s
 
--- Each name has a place of its own, to which symbols give it, and to no other; no place is left.
+-- the symbol gives a place of the kind a name that isn't among these
+pub record IsUnknown (kind : Kind) (count : ℕ) (names : List (List ℕ)) (s : Symbol) : Type 0 where
+  pub of_kind : s.kind ≡ kind
+  pub within : s.position < count
+  pub other : ¬ Contains names s.name
+
+abbrev pub AreKnown : Kind → ℕ → List Symbol → List (List ℕ) → Type 0
+AreKnown kind count symbols names = (s : Symbol) → Contains symbols s → ¬ IsUnknown kind count names s
+
+-- Each name has a place of its own: symbols give it to that place, and to no other. Symbols give no other name, and no place is left over.
 pub record AreNamed (kind : Kind) (count : ℕ) (symbols : List Symbol) (names : List (List ℕ)) (places : List ℕ) : Type 0 where
   pub all : length places ≡ length names
   pub named : (k : ℕ) → k < length names → IsNamed kind count symbols (get_or names k []) (get_or places k 0)
   pub nowhere_else : (k place : ℕ) → k < length names → IsNamed kind count symbols (get_or names k []) place → place ≡ get_or places k 0
   pub apart : AllPairs (λ p q. p ≢ q) places
+  pub known : AreKnown kind count symbols names
   pub none_left : (place : ℕ) → place < count → Contains places place
 
 -- the literals at these places
 abbrev pub literals_at : List ℕ → List ℕ → List ℕ
 literals_at literals places = map (λ place. get_or literals place 0) places
 
--- the literals of these names in their order: by symbols, or as many in the order in which they stand
+-- the literals of these names in their order: by symbols, or else all literals as they are, if there are as many as names
 abbrev pub AreTied : Bool → Kind → List Symbol → List (List ℕ) → List ℕ → List ℕ → Type 0
 AreTied true kind symbols names literals tied = (length literals ≡ length names) × (tied ≡ literals)
 AreTied false kind symbols names literals tied =
@@ -52,13 +62,14 @@ abbrev pub IsOnlyAt : Kind → ℕ → List Symbol → List ℕ → ℕ → Type
 IsOnlyAt kind count symbols name place =
     IsNamed kind count symbols name place × ((other : ℕ) → IsNamed kind count symbols name other → other ≡ place)
 
--- the name at this position of the list has a place of its own: it is given to one, and no name before it is given to that
+-- the name at this position of the list has a place of its own: it is given to one place only, and no name before it is given to that
+-- place
 abbrev pub HasPlace : Kind → ℕ → List Symbol → List (List ℕ) → ℕ → Type 0
 HasPlace kind count symbols names k =
     (place : ℕ) × IsOnlyAt kind count symbols (get_or names k []) place
     × ((j : ℕ) → j < k → ¬ IsNamed kind count symbols (get_or names j []) place)
 
--- the name stands at this position of the list, and those before it have places of their own
+-- the name is at this position of the list, and the names before it have places of their own
 pub record IsNext (kind : Kind) (count : ℕ) (symbols : List Symbol) (names : List (List ℕ)) (k : ℕ) (name : List ℕ) : Type 0 where
   pub within : k < length names
   pub there : get_or names k [] ≡ name
@@ -71,18 +82,19 @@ pub record IsLeft (kind : Kind) (count : ℕ) (symbols : List Symbol) (names : L
   pub left : (k : ℕ) → k < length names → ¬ IsNamed kind count symbols (get_or names k []) place
   pub before : (p : ℕ) → p < place → (k : ℕ) × (k < length names) × IsNamed kind count symbols (get_or names k []) p
 
--- the symbol is one of the place
-abbrev pub IsAt : Kind → ℕ → Symbol → Type 0
-IsAt kind place s = (s.kind ≡ kind) × (s.position ≡ place)
+-- this symbol is the first that gives another name
+abbrev pub IsFirstUnknown : Kind → ℕ → List (List ℕ) → List Symbol → Symbol → Type 0
+IsFirstUnknown kind count names [] s = ⊥
+IsFirstUnknown kind count names (first ∷ symbols) s =
+    (IsUnknown kind count names first × (first ≡ s)) ⊎ (¬ IsUnknown kind count names first × IsFirstUnknown kind count names symbols s)
 
--- the first symbol of the place gives it this name
-abbrev pub IsFirstName : Kind → ℕ → List Symbol → List ℕ → Type 0
-IsFirstName kind place [] name = ⊥
-IsFirstName kind place (s ∷ symbols) name =
-    (IsAt kind place s × (s.name ≡ name)) ⊎ (¬ IsAt kind place s × IsFirstName kind place symbols name)
+-- the first symbol that gives another name gives this one to this place
+abbrev pub HasUnknown : Kind → ℕ → List Symbol → List (List ℕ) → ℕ → List ℕ → Type 0
+HasUnknown kind count symbols names place name =
+    (s : Symbol) × IsFirstUnknown kind count names symbols s × (s.position ≡ place) × (s.name ≡ name)
 
--- Why the names, or so many places of the kind, are not tied: by symbols, the first name that has no place of its own, or else the first
--- place that has none of the names; or there are fewer places, or more, where they are taken as they stand.
+-- Why the names aren't tied to the places of a kind. By symbols: a name has no place of its own, the first such name; or else a symbol gives
+-- another name, the first such symbol; or else a place has no symbol, the first such place. By place: there are fewer places than names, or more.
 abbrev pub IsSideFault : Bool → Kind → ℕ → List Symbol → List (List ℕ) → SideFault → Type 0
 IsSideFault false kind count symbols names (Missing name) =
     (k : ℕ) × IsNext kind count symbols names k name.bytes.items × ((place : ℕ) → ¬ IsNamed kind count symbols name.bytes.items place)
@@ -93,20 +105,21 @@ IsSideFault false kind count symbols names (Shared place one other) =
     (k : ℕ) × IsNext kind count symbols names k other.bytes.items × IsOnlyAt kind count symbols other.bytes.items place
     × ((j : ℕ) × (j < k) × (get_or names j [] ≡ one.bytes.items) × IsNamed kind count symbols one.bytes.items place)
 IsSideFault false kind count symbols names (Nameless place) =
-    IsLeft kind count symbols names place × ((s : Symbol) → Contains symbols s → ¬ IsAt kind place s)
+    IsLeft kind count symbols names place × AreKnown kind count symbols names
+    × ((s : Symbol) → Contains symbols s → s.kind ≡ kind → s.position ≢ place)
 IsSideFault false kind count symbols names (Extra place name) =
-    IsLeft kind count symbols names place × IsFirstName kind place symbols name.bytes.items
+    ((k : ℕ) → k < length names → HasPlace kind count symbols names k) × HasUnknown kind count symbols names place name.bytes.items
 IsSideFault true kind count symbols names (Short name) = (count < length names) × (get_or names count [] ≡ name.bytes.items)
 IsSideFault true kind count symbols names (Long place) = (place ≡ length names) × (place < count)
 IsSideFault _ _ _ _ _ _ = ⊥
 
--- names are asked for, there are inputs or outputs, and none of them has a name
+-- names are needed, there are inputs or outputs, and none of them has a name
 abbrev pub IsNameless : Bool → List ℕ → List ℕ → List Symbol → Type 0
 IsNameless true inputs outputs symbols = ⊥
 IsNameless false inputs outputs symbols =
     (0 < length inputs + length outputs) × ((s : Symbol) → Contains symbols s → s.kind ≡ latch)
 
--- inputs come first
+-- inputs are matched first
 abbrev pub IsTieFault : Bool → Automaton → Circuit → List Symbol → TieFault → Type 0
 IsTieFault by_place a circuit symbols OutOfMemory = Unit {0}
 IsTieFault by_place a circuit symbols NoSymbols = IsNameless by_place circuit.inputs circuit.outputs symbols

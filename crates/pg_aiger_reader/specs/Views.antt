@@ -1,4 +1,4 @@
--- What is read, without where it lies in memory.
+-- The values that are read, apart from where they are in memory.
 use Rattle.std.specs.Prelude.{ℕ, List, map}
 use Rattle.pg_aiger_reader.specs.declared.reader.Parts.{Parts}
 use Rattle.pg_aiger_reader.specs.declared.symbol.Kind as declared

@@ -1,4 +1,4 @@
-//! Why a circuit's text is refused.
+//! Why a circuit's text is refused, or doesn't match an automaton.
 
 ghost use Rattle.std.specs.Prelude.{◌≡◌};
 ghost use Rattle.pg_aiger_reader.specs.declared.fault.ReaderFault.TheVariants.{OutOfMemory};
@@ -20,18 +20,18 @@ pub enum Section {
     Fairness,
 }
 
-/// Why a text is no circuit, or one that this reader doesn't support. Offsets count bytes from 0.
+/// Why a text spells no circuit, or one that this reader doesn't support. Offsets count bytes from 0.
 #[derive(Clone, Copy, Debug, PartialEq, Eq)]
 pub enum ReaderFault {
-    /// A growth was refused.
+    /// Memory ran out.
     OutOfMemory,
-    /// The line at this offset is none that may stand there.
+    /// The text at this offset isn't valid there.
     Syntax(usize),
-    /// The digits at this offset write a number over 4,294,967,295.
+    /// The digits at this offset, or the groups of bits in the binary form, write a number over 4,294,967,295.
     NumberTooLarge(usize),
     /// The header has more than 16,777,216 variables or outputs.
     TooLarge,
-    /// The header says that the circuit has some.
+    /// The header says that the circuit has some of these.
     LeftOut(Section),
     /// The latch with this index, counted from 0, doesn't start at 0.
     Reset(usize),
@@ -76,7 +76,8 @@ impl fmt::Display for ReaderFault {
 
 impl Error for ReaderFault {}
 
-/// Why the inputs, or the outputs, of a circuit don't match the propositions of an automaton. A place counts from 0.
+/// Why the inputs, or the outputs, of a circuit don't match the propositions of an automaton. A place counts from 0. The variants are
+/// described for inputs; for outputs they say the same of outputs.
 #[derive(Debug, Drop)]
 pub enum SideFault {
     /// No input has this name.
@@ -87,27 +88,29 @@ pub enum SideFault {
     Shared(usize, Name, Name),
     /// The input at this place has no name.
     Nameless(usize),
-    /// The input at this place has this name, and no proposition has it.
+    /// A symbol gives the input at this place this name, and no proposition has it.
     Extra(usize, Name),
-    /// There are fewer inputs than propositions; this is the name of the first that is left.
+    /// There are fewer inputs than propositions; this is the name of the first proposition without an input.
     Short(Name),
-    /// There are more inputs than propositions; this is the place of the first that is left.
+    /// There are more inputs than propositions; this is the place of the first input without a proposition.
     Long(usize),
 }
 
 /// Why the inputs and outputs of a circuit don't match the propositions of an automaton.
 #[derive(Debug, Drop)]
 pub enum TieFault {
-    /// A growth was refused.
+    /// Memory ran out.
     OutOfMemory,
     /// No input and no output has a name.
     NoSymbols,
+    /// The inputs don't match.
     Inputs(SideFault),
+    /// The inputs match, but the outputs don't.
     Outputs(SideFault),
 }
 
 impl SideFault {
-    /// Writes why inputs don't match, or outputs, whose word is given.
+    /// Writes why one side doesn't match; `word` is `input` or `output`.
     fn write<W: fmt::Write>(&self, word: &str, f: &mut fmt::Formatter<W>) -> fmt::Result
         ensures { WritesOnOk W.Write.write_str_gives f.old result (side_fault_text word.now self.now) f.new }
     {
@@ -121,7 +124,7 @@ impl SideFault {
             SideFault::Nameless(place) => write!(f, "{word} {place} has no symbol"),
             SideFault::Extra(place, name) => write!(
                 f,
-                "the circuit has an {word} more: {word} {place}, named {name}"
+                "{word} {place} is named {name}, but the automaton has no such {word}"
             ),
             SideFault::Short(name) => write!(f, "the circuit has no {word} for {name}"),
             SideFault::Long(place) => write!(f, "the circuit has an {word} more: {word} {place}"),
@@ -186,7 +189,8 @@ impl<T: Drop> From<AllocFailed<T>> for ReaderFault {
 }
 
 impl ReaderFault {
-    /// The same fault, where its offset counted the bytes that are left from there in a text of `len` bytes.
+    /// Returns the same fault with an offset from the start of a text of `len` bytes; the offset of `self` counts the bytes from there to
+    /// the end.
     pub(crate) fn at(self, len: usize) -> ReaderFault
         ensures { result ≡ turned len self }
     {

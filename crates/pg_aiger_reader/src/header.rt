@@ -1,4 +1,4 @@
-//! The first line: how a circuit is written, and how much of each there is.
+//! The first line: the form of a circuit's text, and the counts of its parts.
 
 ghost use Rattle.std.specs.Prelude.{◌≡◌, IfOk, option_map};
 ghost use Rattle.pg_aiger_reader.specs.Mirrors.Steps.{GivesAs};
@@ -9,10 +9,10 @@ use crate::item::Form;
 use crate::number::line;
 use std::alloc::Global;
 
-/// How many variables and outputs there may be at most.
+/// The limit on variables, and the limit on outputs.
 const MOST: u32 = 16_777_216;
 
-/// How a circuit is written, and how much of each there is.
+/// The form of a circuit's text, the greatest variable, and the counts of its parts.
 #[derive(Clone, Copy, Debug)]
 pub(crate) struct Header {
     pub form: Form,
@@ -23,7 +23,7 @@ pub(crate) struct Header {
     pub gates: u32,
 }
 
-/// The form by its letters, and what follows.
+/// Returns the form by its letters at the start, and the rest of the text.
 fn form(bytes: &[u8]) -> Option<(Form, &[u8])>
     ensures { option_map (λ x. (x.0, x.1.now)) result ≡ form_at bytes.now }
 {
@@ -34,7 +34,7 @@ fn form(bytes: &[u8]) -> Option<(Form, &[u8])>
     }
 }
 
-/// What is left out, by the numbers of the header behind the first five.
+/// Returns the first unsupported section that the circuit has, by the numbers of the header after the first five.
 fn left_out(counts: &[u32]) -> Option<Section>
     ensures { result ≡ left_out counts.now }
 {
@@ -47,7 +47,7 @@ fn left_out(counts: &[u32]) -> Option<Section>
     }
 }
 
-/// Whether the variables suffice for inputs, latches and gates; in the binary form none is left.
+/// Whether there are enough variables for inputs, latches and gates; in the binary form, exactly as many.
 fn fits(form: Form, greatest: u32, inputs: u32, latches: u32, gates: u32) -> bool
     ensures { result ≡ fits form greatest inputs latches gates }
 {
@@ -58,7 +58,7 @@ fn fits(form: Form, greatest: u32, inputs: u32, latches: u32, gates: u32) -> boo
     }
 }
 
-/// What the numbers of the first line say.
+/// Returns the header with the numbers of the first line. A syntax fault has the offset `left`, which counts from the end.
 #[tactic(auto, unfolding(crate::specs::Mirrors::Headers::header_of, crate::specs::Mirrors::Headers::header_fault))]
 fn header_of(form: Form, numbers: &[u32], left: usize) -> Result<Header, ReaderFault>
     ensures read { GivesAs (λ x. x) (header_fault numbers.now) result (header_of form numbers.now) }
@@ -88,7 +88,7 @@ fn header_of(form: Form, numbers: &[u32], left: usize) -> Result<Header, ReaderF
     }
 }
 
-/// What the first line says, and what follows it.
+/// Reads the first line, and returns its header and the rest of the text.
 #[tactic(auto, unfolding(crate::specs::Mirrors::Headers::header_at, crate::specs::Mirrors::Headers::fault_at))]
 pub(crate) fn read_header(alloc: Global, bytes: &[u8]) -> Result<(Header, &[u8]), ReaderFault>
     ensures read { GivesAs (λ x. (x.0, x.1.now)) (fault_at bytes.now) result (header_at bytes.now) }

@@ -1,4 +1,4 @@
-//! The lines of inputs, outputs, latches and gates, and what stands for them in the binary form.
+//! The lines of inputs, outputs, latches and gates, and their counterparts in the binary form.
 
 ghost use Rattle.std.specs.Prelude.{◌≡◌, ◌<◌, ◌^◌, ◌≤◌};
 ghost use Rattle.pg_aiger_reader.specs.Mirrors.Steps.{Gives};
@@ -8,14 +8,14 @@ use crate::fault::ReaderFault;
 use crate::number::line;
 use pg_aiger::Gate;
 
-/// How a circuit is written.
+/// The form of a circuit's text.
 #[derive(Clone, Copy, Debug, PartialEq, Eq)]
 pub(crate) enum Form {
     Ascii,
     Binary,
 }
 
-/// A latch's line: its literal, the literal that it takes over, and its value at first.
+/// A latch's line: its literal, its next literal, and its initial value.
 #[derive(Clone, Copy, Debug)]
 pub(crate) struct LatchLine {
     pub literal: u32,
@@ -23,7 +23,7 @@ pub(crate) struct LatchLine {
     pub reset: u32,
 }
 
-/// The literal that stands alone on its line.
+/// Reads a line of a single literal. Returns the literal and the rest of the text.
 #[tactic(auto, unfolding(crate::specs::Mirrors::Items::literal_at))]
 fn literal<'a>(numbers: &mut Vec<u32>, bytes: &'a [u8]) -> Result<(u32, &'a [u8]), ReaderFault>
     ensures { Gives (λ x. (x.0, x.1.now)) result (literal_at bytes.now) }
@@ -35,7 +35,7 @@ fn literal<'a>(numbers: &mut Vec<u32>, bytes: &'a [u8]) -> Result<(u32, &'a [u8]
     }
 }
 
-/// The literal of an input or an output. In the binary form that of an input isn't written: it is the variable's.
+/// Reads the literal of an input or an output. In the binary form an input's literal isn't written: it is twice `variable`.
 #[tactic(auto, unfolding(crate::specs::Mirrors::Items::input_at))]
 pub(crate) fn input<'a>(
     form: Form,
@@ -52,7 +52,7 @@ pub(crate) fn input<'a>(
     }
 }
 
-/// The latch whose line has these numbers.
+/// Returns the latch whose line has these numbers, if there is one.
 fn latch_of(form: Form, variable: u32, numbers: &[u32]) -> Option<LatchLine>
     requires { variable < 2 ^ 31 }
     ensures { result ≡ latch_of form variable numbers.now }
@@ -71,7 +71,7 @@ fn latch_of(form: Form, variable: u32, numbers: &[u32]) -> Option<LatchLine>
     })
 }
 
-/// A latch. In the binary form its literal isn't written: it is the variable's.
+/// Reads a latch. In the binary form its literal isn't written: it is twice `variable`.
 #[tactic(auto, unfolding(crate::specs::Mirrors::Items::latch_at))]
 pub(crate) fn latch<'a>(
     form: Form,
@@ -107,7 +107,7 @@ fn ascii_gate<'a>(numbers: &mut Vec<u32>, bytes: &'a [u8]) -> Result<(Gate, &'a 
     }
 }
 
-/// The number that groups of seven bits write, the low group first, at most so many of them. A byte of 128 or more says that
+/// Reads the number that groups of seven bits write, the low group first, in at most `most` groups. A byte of 128 or more says that
 /// another group follows.
 #[tactic(auto, unfolding(crate::specs::Mirrors::Items::groups_at))]
 fn groups(most: u32, bytes: &[u8]) -> Result<(u32, &[u8]), ReaderFault>
@@ -132,7 +132,7 @@ fn groups(most: u32, bytes: &[u8]) -> Result<(u32, &[u8]), ReaderFault>
     }
 }
 
-/// A gate of the binary form: how far its first literal is below its own, and its second below its first.
+/// Reads a gate of the binary form: by how much its first literal is below its own, and its second below its first.
 #[tactic(auto, unfolding(crate::specs::Mirrors::Items::binary_gate_at))]
 fn binary_gate(variable: u32, bytes: &[u8]) -> Result<(Gate, &[u8]), ReaderFault>
     requires { variable < 2 ^ 31 }
@@ -158,7 +158,7 @@ fn binary_gate(variable: u32, bytes: &[u8]) -> Result<(Gate, &[u8]), ReaderFault
     ))
 }
 
-/// A gate.
+/// Reads a gate.
 #[tactic(auto, unfolding(crate::specs::Mirrors::Items::gate_at))]
 pub(crate) fn gate<'a>(
     form: Form,

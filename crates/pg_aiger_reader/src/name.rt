@@ -7,14 +7,14 @@ ghost use Rattle.pg_aiger_reader.specs.FaultTexts.{is_control, escaped, name_tex
 use std::alloc::{AllocError, Global};
 use std::{fmt, str};
 
-/// A name, which may be any bytes.
+/// A name: any bytes. It is shown as it is if it is UTF-8 without control characters of ASCII, and otherwise with escapes.
 #[derive(Debug, Drop)]
 pub struct Name {
     pub bytes: Vec<u8>,
 }
 
 impl Name {
-    /// A copy of a name.
+    /// Returns a copy of a name.
     pub(crate) fn of(alloc: Global, bytes: &[u8]) -> Result<Name, AllocError>
         ensures { IfOk result (λ name. name.bytes.items ≡ bytes.now) }
     {
@@ -50,14 +50,14 @@ fn is_control(byte: u8) -> bool
     byte < 32 || byte == 127
 }
 
-/// Whether a control character of ASCII is among the bytes.
+/// Whether any of the bytes is a control character of ASCII.
 fn has_control(bytes: &[u8]) -> bool
     ensures { result ≡ list_any is_control bytes.now }
 {
     bytes.iter().any(|byte| is_control(*byte))
 }
 
-/// The name, if it can be shown as it is.
+/// Returns the name, if it can be shown as it is.
 fn plain(bytes: &[u8]) -> Option<&str>
     ensures shown { IfSome result (λ text. (text.now ≡ bytes.now) × (name_text bytes.now ≡ bytes.now)) }
     ensures hidden { IsNone result → name_text bytes.now ≡ flat_map escaped bytes.now }

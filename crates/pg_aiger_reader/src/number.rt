@@ -14,14 +14,14 @@ fn is_digit(byte: u8) -> bool
     byte.is_ascii_digit()
 }
 
-/// How many digits stand in front.
+/// Returns how many digits are at the start.
 fn digits(bytes: &[u8]) -> usize
     ensures { result ≡ prefix_len is_digit bytes.now }
 {
     bytes.iter().take_while(|byte| is_digit(**byte)).count()
 }
 
-/// The number that the digits write, if it is below 2^32.
+/// Returns the number that the digits write, if it is below 2^32.
 fn value_of(digits: &[u8]) -> Option<u32>
     ensures { SomeIff result (value_of digits.now < 2 ^ 32) (value_of digits.now) }
 {
@@ -35,7 +35,8 @@ fn value_of(digits: &[u8]) -> Option<u32>
     Some(value as u32)
 }
 
-/// The number in front, whether its line ends behind it, and what follows: a single space or a newline stands behind it.
+/// Reads the number at the start, which a single space or a newline ends. Returns the number, whether its line ends after it, and the
+/// rest of the text.
 #[tactic(auto, using(pg_list_lemmas::proofs::Runs::run_within), unfolding(crate::specs::Mirrors::Scan::field_at))]
 pub(crate) fn field(bytes: &[u8]) -> Result<(u32, bool, &[u8]), ReaderFault>
     ensures { Gives (λ x. (x.0, x.1, x.2.now)) result (field_at bytes.now) }
@@ -54,7 +55,8 @@ pub(crate) fn field(bytes: &[u8]) -> Result<(u32, bool, &[u8]), ReaderFault>
     }
 }
 
-/// A line of one number or more, at most so many. They take the place of what the list held.
+/// Reads a line of at least one number and at most `most` into `numbers`, and drops what the list held before. Returns the rest of the
+/// text.
 pub(crate) fn line<'a>(
     most: u32,
     numbers: &mut Vec<u32>,

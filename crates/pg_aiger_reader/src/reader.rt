@@ -20,14 +20,18 @@ use std::alloc::Global;
 pub struct Parts<'a> {
     /// The greatest variable.
     pub greatest: u32,
+    /// The literals of the inputs.
     pub inputs: Vec<u32>,
+    /// The latches, all of which are 0 at first.
     pub latches: Vec<Latch>,
+    /// The literals of the outputs.
     pub outputs: Vec<u32>,
     pub gates: Vec<Gate>,
+    /// The names that the text gives to inputs, latches and outputs.
     pub symbols: Vec<Symbol<'a>>,
 }
 
-/// What stands behind a first line `REALIZABLE` or `UNREALIZABLE`, if there is one.
+/// Returns the text after a first line `REALIZABLE` or `UNREALIZABLE`, or the whole text if it has no such line.
 fn behind_verdict(bytes: &[u8]) -> &[u8]
     ensures { result.now ≡ behind_verdict bytes.now }
 {
@@ -40,7 +44,7 @@ fn behind_verdict(bytes: &[u8]) -> &[u8]
     }
 }
 
-/// The latches of these lines, all of which are to be 0 at first.
+/// Returns the latches of these lines. It fails with `Reset` at the first that isn't 0 at first.
 fn latches_of(alloc: Global, lines: &[LatchLine]) -> Result<Vec<Latch>, ReaderFault>
     ensures { GivesAs (λ x. x.items) (reset_fault 0 lines.now) result (latches_at lines.now) }
 {
@@ -58,7 +62,7 @@ fn latches_of(alloc: Global, lines: &[LatchLine]) -> Result<Vec<Latch>, ReaderFa
     Ok(latches)
 }
 
-/// What a text says; offsets of faults count from the end.
+/// Reads a text; offsets of faults count from the end.
 #[tactic(auto, unfolding(crate::specs::Mirrors::Reading::text_at, crate::specs::Mirrors::Reading::text_fault))]
 fn read<'a>(alloc: Global, bytes: &'a [u8]) -> Result<Parts<'a>, ReaderFault>
     ensures { GivesAs parts_in (text_fault bytes.now) result (text_at bytes.now) }
@@ -77,16 +81,19 @@ fn read<'a>(alloc: Global, bytes: &'a [u8]) -> Result<Parts<'a>, ReaderFault>
     })
 }
 
-/// Reads a circuit in the AIGER format, in ASCII (`aag`) or binary (`aig`), of 2007 or version 1.9. It skips a first
-/// line `REALIZABLE` or `UNREALIZABLE`. The numbers of a line are separated by single spaces, and each line ends with a single newline.
-/// There are at most 16,777,216 variables, and at most 16,777,216 outputs.
+/// Reads a circuit in the AIGER format, in ASCII (`aag`) or binary (`aig`), of 2007 or version 1.9. It skips a first line `REALIZABLE` or
+/// `UNREALIZABLE`. The numbers of a line are separated by single spaces, and each line ends with a single newline. There are at most
+/// 16,777,216 variables, and at most 16,777,216 outputs.
 ///
-/// It doesn't check whether each variable that is used is defined, only once and not through itself; the code that
-/// makes a circuit of the parts does.
+/// It fails with `LeftOut` or `TooLarge` because of the header, with `Reset` at the first latch that doesn't start at 0, with `Syntax` or
+/// `NumberTooLarge` at any other text that it can't read, and with `OutOfMemory` if memory runs out.
+///
+/// It doesn't check that each used variable is defined, only once and not through itself; the code that makes a circuit from the parts
+/// does.
 pub fn read_circuit(alloc: Global, bytes: &[u8]) -> Result<Parts<'_>, ReaderFault>
-    // What is read is spelt so.
+    // The text spells what is read.
     ensures found { IfOk result (λ parts. IsRead bytes.now (circuit_in parts) (symbols_in parts)) }
-    // Where a text is refused it spells nothing, unless memory ran out; a fault by its name comes exactly if it is so.
+    // Unless memory ran out, a refused text spells nothing, and a named fault is returned if and only if the text has it.
     ensures refused { IfErr result (Refuses bytes.now) }
 {
     match read(alloc, bytes) {

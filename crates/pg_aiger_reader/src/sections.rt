@@ -12,7 +12,7 @@ use crate::item::{Form, LatchLine, gate, input, latch};
 use pg_aiger::Gate;
 use std::alloc::Global;
 
-/// The lines behind the first one, up to the symbols.
+/// The lines after the first one, up to the symbols.
 #[derive(Drop)]
 pub(crate) struct Sections {
     pub inputs: Vec<u32>,
@@ -21,7 +21,7 @@ pub(crate) struct Sections {
     pub gates: Vec<Gate>,
 }
 
-/// So many inputs or outputs.
+/// Reads `count` inputs or outputs. Returns them and the rest of the text.
 fn literals(
     alloc: Global,
     form: Form,
@@ -42,7 +42,7 @@ fn literals(
     Ok((list, rest))
 }
 
-/// So many latches; the first one's variable is `first` in the binary form.
+/// Reads `count` latches; in the binary form the first one's variable is `first`. Returns them and the rest of the text.
 fn latches(
     alloc: Global,
     form: Form,
@@ -64,7 +64,7 @@ fn latches(
     Ok((list, rest))
 }
 
-/// So many gates; the first one's variable is `first` in the binary form.
+/// Reads `count` gates; in the binary form the first one's variable is `first`. Returns them and the rest of the text.
 fn gates(
     alloc: Global,
     form: Form,
@@ -86,7 +86,7 @@ fn gates(
     Ok((list, rest))
 }
 
-/// As many of each as the header says.
+/// Reads as many inputs, latches, outputs and gates as the header says. Returns them and the rest of the text.
 #[tactic(auto, unfolding(crate::specs::Mirrors::Sections::sections_at))]
 pub(crate) fn read_sections<'a>(
     alloc: Global,

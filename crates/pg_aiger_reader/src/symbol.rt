@@ -1,4 +1,4 @@
-//! Symbols: which input, latch or output has which name.
+//! Symbols: the names of inputs, latches and outputs.
 
 ghost use Rattle.std.specs.Prelude.{◌≡◌, ◌+◌, length, map, option_map};
 ghost use Rattle.std.specs.List.{prefix_len};
@@ -20,16 +20,17 @@ pub enum Kind {
     Output,
 }
 
-/// The name of an input, a latch or an output, which borrows the text.
+/// The name of an input, a latch or an output. It borrows the text.
 #[derive(Clone, Copy, Debug)]
 pub struct Symbol<'a> {
     pub kind: Kind,
     /// Its index among its kind, from 0.
     pub position: u32,
+    /// Any bytes but a newline.
     pub name: &'a [u8],
 }
 
-/// What the letter says.
+/// Returns the kind that a letter stands for, if there is one.
 fn kind_of(letter: u8) -> Option<Kind>
     ensures { option_map kind_in result ≡ kind_at letter }
 {
@@ -41,21 +42,21 @@ fn kind_of(letter: u8) -> Option<Kind>
     }
 }
 
-/// Whether a text ends here, or has only a comment.
+/// Whether the text ends here, or has only a comment left.
 fn is_end(bytes: &[u8]) -> bool
     ensures { result ≡ is_end bytes.now }
 {
     matches!(bytes, [] | [b'c', b'\n', ..])
 }
 
-/// How many bytes stand before the next newline.
+/// Returns how many bytes come before the next newline.
 fn inner(bytes: &[u8]) -> usize
     ensures { result ≡ prefix_len is_inner bytes.now }
 {
     bytes.iter().take_while(|byte| **byte != b'\n').count()
 }
 
-/// What stands before the next newline, and what follows that.
+/// Returns the bytes before the next newline, and the rest of the text after it.
 #[tactic(auto, using(pg_list_lemmas::proofs::Runs::run_within), unfolding(crate::specs::Mirrors::Symbols::name_at))]
 fn name(bytes: &[u8]) -> Result<(&[u8], &[u8]), ReaderFault>
     ensures { Gives (λ x. (x.0.now, x.1.now)) result (name_at bytes.now) }
@@ -68,7 +69,7 @@ fn name(bytes: &[u8]) -> Result<(&[u8], &[u8]), ReaderFault>
     }
 }
 
-/// A symbol: a letter, a position, a space, and the name up to the end of the line.
+/// Reads a symbol: a letter, a position, a space, and the name up to the end of the line. Returns it and the rest of the text.
 #[tactic(auto, unfolding(crate::specs::Mirrors::Symbols::symbol_at))]
 fn read_symbol(bytes: &[u8]) -> Result<(Symbol<'_>, &[u8]), ReaderFault>
     ensures { Gives (λ x. (symbol_in x.0, x.1.now)) result (symbol_at bytes.now) }
@@ -96,7 +97,7 @@ fn read_symbol(bytes: &[u8]) -> Result<(Symbol<'_>, &[u8]), ReaderFault>
     }
 }
 
-/// How many of a kind there are.
+/// Returns how many of a kind there are.
 fn count_of(header: &Header, kind: Kind) -> u32
     ensures { result ≡ count_in header.now (kind_in kind) }
 {
@@ -107,7 +108,7 @@ fn count_of(header: &Header, kind: Kind) -> u32
     }
 }
 
-/// A symbol that names something.
+/// Reads a symbol, which must name something. Returns it and the rest of the text.
 #[tactic(auto, unfolding(crate::specs::Mirrors::Symbols::good_at))]
 fn good_symbol<'a>(header: &Header, bytes: &'a [u8]) -> Result<(Symbol<'a>, &'a [u8]), ReaderFault>
     ensures { Gives (λ x. (symbol_in x.0, x.1.now)) result (good_at header.now bytes.now) }
@@ -120,7 +121,7 @@ fn good_symbol<'a>(header: &Header, bytes: &'a [u8]) -> Result<(Symbol<'a>, &'a 
     }
 }
 
-/// The symbols up to the end or a comment, each of which names something.
+/// Reads the symbols up to the end or a comment. Each of them must name something.
 pub(crate) fn symbols<'a>(
     alloc: Global,
     header: &Header,
@@ -130,7 +131,7 @@ pub(crate) fn symbols<'a>(
 {
     let mut symbols = Vec::new(alloc);
     let mut rest = bytes;
-    // a symbol takes a byte at least
+    // a symbol takes at least one byte
     for _ in 0..bytes.len() + 1 {
         if is_end(rest) {
             return Ok(symbols);

@@ -1,4 +1,4 @@
-//! Which input and which output of a circuit is which proposition of an automaton.
+//! Matches the inputs and outputs of a circuit to the propositions of an automaton.
 
 ghost use Rattle.std.specs.Prelude.{◌≡◌, ◌==◌, ◌&&◌, ◌<◌, List, ℕ, length, map, get_or, All};
 ghost use Rattle.std.specs.Prelude.{IfOk, IfErr, IfSome, IsNone, MatchBool, MatchOption, MatchResult, Contains, true, false};
@@ -7,7 +7,7 @@ ghost use Rattle.pg_aiger.specs.Mirrors.Layouts.{names_until};
 ghost use Rattle.pg_hoa_automaton.specs.Automata.{IsAutomaton};
 ghost use Rattle.pg_aiger.specs.CircuitText.{latch};
 ghost use Rattle.pg_aiger.specs.CircuitText as text;
-ghost use Rattle.pg_aiger_reader.specs.Ties.{AreTied, IsTied, IsTieFault, IsSideFault, IsNameless, IsLeft, IsAt, IsFirstName, literals_at};
+ghost use Rattle.pg_aiger_reader.specs.Ties.{AreTied, IsTied, IsTieFault, IsSideFault, IsNameless, IsUnknown, AreKnown, IsFirstUnknown, literals_at};
 ghost use Rattle.pg_aiger_reader.specs.Mirrors.Places.{is_kind, noted, IsPlaceOf, AreGiven, texts};
 
 use crate::fault::{SideFault, TieFault};
@@ -17,7 +17,7 @@ use crate::symbol::{Kind, Symbol};
 use pg_hoa_automaton::Automaton;
 use std::alloc::{AllocError, Global};
 
-/// Where symbols give a name.
+/// The place to which symbols give a name.
 #[derive(Clone, Copy, Debug)]
 pub(crate) enum Place {
     Missing,
@@ -34,7 +34,7 @@ fn is_kind(one: Kind, other: Kind) -> bool
     )
 }
 
-/// Where a name stands, after one symbol more.
+/// Returns the place of a name, after one more symbol.
 fn noted(found: Place, kind: Kind, count: usize, name: &[u8], symbol: &Symbol<'_>) -> Place
     ensures { result ≡ noted found (kind_in kind) count name.now (symbol_in symbol.now) }
 {
@@ -49,7 +49,7 @@ fn noted(found: Place, kind: Kind, count: usize, name: &[u8], symbol: &Symbol<'_
     }
 }
 
-/// Where the symbols of a kind give a name, among so many positions.
+/// Returns the place to which the symbols of a kind give a name, among the first `count` positions.
 fn place_of(kind: Kind, count: usize, symbols: &[Symbol<'_>], name: &[u8]) -> Place
     ensures { IsPlaceOf (kind_in kind) count (map symbol_in symbols.now) name.now result }
 {
@@ -60,7 +60,7 @@ fn place_of(kind: Kind, count: usize, symbols: &[Symbol<'_>], name: &[u8]) -> Pl
     found
 }
 
-/// Which of the places this one is.
+/// Returns the position of `place` among the places, if it is one of them.
 fn position_of(places: &[usize], place: usize) -> Option<usize>
     ensures some { IfSome result (λ j. (j < length places.now) × (get_or places.now j 0 ≡ place)) }
     ensures none { IsNone result → Contains places.now place → ⊥ }
@@ -68,7 +68,8 @@ fn position_of(places: &[usize], place: usize) -> Option<usize>
     places.iter().position(|p| *p == place)
 }
 
-/// Where the symbols give each of the names.
+/// Returns the place to which the symbols give each of the names, among the first `count` positions, or the fault of the first name that
+/// has no place of its own.
 fn places_of(
     alloc: Global,
     kind: Kind,
@@ -98,7 +99,7 @@ fn places_of(
     Ok(Ok(places))
 }
 
-/// The first of so many positions that isn't among the places.
+/// Returns the first of `count` positions that isn't among the places, if there is one.
 fn left(places: &[usize], count: usize) -> Option<usize>
     ensures some { IfSome result (λ p. (p < count) × (Contains places.now p → ⊥) × ((q : ℕ) → q < p → Contains places.now q)) }
     ensures none { IsNone result → (p : ℕ) → p < count → Contains places.now p }
@@ -111,43 +112,42 @@ fn left(places: &[usize], count: usize) -> Option<usize>
     None
 }
 
-/// Whether the symbol is one of the place.
-fn is_at(symbol: &Symbol<'_>, kind: Kind, place: usize) -> bool
-    ensures { result ≡ (is_kind (kind_in symbol.now.kind) (kind_in kind) && symbol.now.position == place) }
+/// Whether the symbol gives a place of the kind a name that isn't among the names.
+fn is_unknown(kind: Kind, count: usize, names: &[&[u8]], symbol: &Symbol<'_>) -> bool
+    ensures { MatchBool result (IsUnknown (kind_in kind) count (texts names.now) (symbol_in symbol.now))
+        (¬ IsUnknown (kind_in kind) count (texts names.now) (symbol_in symbol.now)) }
 {
-    is_kind(symbol.kind, kind) && symbol.position as usize == place
+    if !is_kind(symbol.kind, kind) || symbol.position as usize >= count {
+        return false;
+    }
+    for k in 0..names.len() {
+        if names[k] == symbol.name {
+            return false;
+        }
+    }
+    true
 }
 
-/// The name that the first symbol of a place gives it.
-fn first_name<'a>(kind: Kind, symbols: &[Symbol<'a>], place: usize) -> Option<&'a [u8]>
-    ensures { MatchOption result ((s : text.Symbol) → Contains (map symbol_in symbols.now) s → ¬ IsAt (kind_in kind) place s)
-        (λ name. IsFirstName (kind_in kind) place (map symbol_in symbols.now) name.now) }
+/// Returns the first symbol that gives a place of the kind a name that isn't among the names, if there is one.
+fn first_unknown<'a>(
+    kind: Kind,
+    count: usize,
+    names: &[&[u8]],
+    symbols: &[Symbol<'a>],
+) -> Option<Symbol<'a>>
+    ensures { MatchOption result
+        (AreKnown (kind_in kind) count (map symbol_in symbols.now) (texts names.now))
+        (λ s. IsFirstUnknown (kind_in kind) count (texts names.now) (map symbol_in symbols.now) (symbol_in s)) }
 {
     for i in 0..symbols.len() {
-        if is_at(&symbols[i], kind, place) {
-            return Some(symbols[i].name);
+        if is_unknown(kind, count, names, &symbols[i]) {
+            return Some(symbols[i]);
         }
     }
     None
 }
 
-/// Why a place that no proposition has is too many.
-fn too_many(
-    alloc: Global,
-    kind: Kind,
-    symbols: &[Symbol<'_>],
-    place: usize,
-) -> Result<SideFault, AllocError>
-    ensures { (count : ℕ) (names : List (List ℕ)) → IsLeft (kind_in kind) count (map symbol_in symbols.now) names place
-        → IfOk result (IsSideFault false (kind_in kind) count (map symbol_in symbols.now) names) }
-{
-    match first_name(kind, symbols, place) {
-        None => Ok(SideFault::Nameless(place)),
-        Some(name) => Ok(SideFault::Extra(place, Name::of(alloc, name)?)),
-    }
-}
-
-/// The literals at these places.
+/// Returns the literals at these places.
 fn selected(alloc: Global, literals: &[u32], places: &[usize]) -> Result<Vec<u32>, AllocError>
     requires { All (λ p. p < length literals.now) places.now }
     ensures { IfOk result (λ x. x.items ≡ literals_at literals.now places.now) }
@@ -159,7 +159,7 @@ fn selected(alloc: Global, literals: &[u32], places: &[usize]) -> Result<Vec<u32
     Ok(found)
 }
 
-/// The literals of the names in their order, by symbols.
+/// Returns the literals of the names in their order, matched by symbols.
 fn by_symbols(
     alloc: Global,
     kind: Kind,
@@ -171,16 +171,21 @@ fn by_symbols(
         (λ x. AreTied false (kind_in kind) (map symbol_in symbols.now) (texts names.now) literals.now x.items)
         (IsSideFault false (kind_in kind) (length literals.now) (map symbol_in symbols.now) (texts names.now))) }
 {
-    match places_of(alloc, kind, literals.len(), symbols, names)? {
-        Err(fault) => Ok(Err(fault)),
-        Ok(places) => match left(&places, literals.len()) {
-            Some(place) => Ok(Err(too_many(alloc, kind, symbols, place)?)),
-            None => Ok(Ok(selected(alloc, literals, &places)?)),
-        },
+    let places = match places_of(alloc, kind, literals.len(), symbols, names)? {
+        Ok(places) => places,
+        Err(fault) => return Ok(Err(fault)),
+    };
+    if let Some(symbol) = first_unknown(kind, literals.len(), names, symbols) {
+        let name = Name::of(alloc, symbol.name)?;
+        return Ok(Err(SideFault::Extra(symbol.position as usize, name)));
+    }
+    match left(&places, literals.len()) {
+        Some(place) => Ok(Err(SideFault::Nameless(place))),
+        None => Ok(Ok(selected(alloc, literals, &places)?)),
     }
 }
 
-/// The literals as they stand, if there are as many as names.
+/// Returns the literals in their order, if there are as many as names.
 fn in_order(
     alloc: Global,
     names: &[&[u8]],
@@ -199,7 +204,7 @@ fn in_order(
     Ok(Ok(literals))
 }
 
-/// The literals of one side in the order of its names.
+/// Returns the literals of one side in the order of its names.
 fn side(
     alloc: Global,
     by_place: bool,
@@ -219,7 +224,7 @@ fn side(
     }
 }
 
-/// Whether no symbol is one of an input or an output.
+/// Whether no symbol names an input or an output.
 fn has_latches_alone(symbols: &[Symbol<'_>]) -> bool
     ensures { MatchBool result ((s : text.Symbol) → Contains (map symbol_in symbols.now) s → s.kind ≡ latch)
         (((s : text.Symbol) → Contains (map symbol_in symbols.now) s → s.kind ≡ latch) → ⊥) }
@@ -232,7 +237,7 @@ fn has_latches_alone(symbols: &[Symbol<'_>]) -> bool
     true
 }
 
-/// Whether names are asked for, there are inputs or outputs, and none of them has a name.
+/// Whether names are needed, there are inputs or outputs, and none of them has a name.
 fn is_nameless(by_place: bool, inputs: &[u32], outputs: &[u32], symbols: &[Symbol<'_>]) -> bool
     ensures { MatchBool result (IsNameless by_place inputs.now outputs.now (map symbol_in symbols.now))
         (IsNameless by_place inputs.now outputs.now (map symbol_in symbols.now) → ⊥) }
@@ -243,7 +248,7 @@ fn is_nameless(by_place: bool, inputs: &[u32], outputs: &[u32], symbols: &[Symbo
     has_latches_alone(symbols)
 }
 
-/// The names of the propositions that the controller sets, or of the others.
+/// Returns the names of the propositions that the controller sets, or of the others.
 fn names_of(
     alloc: Global,
     automaton: &Automaton,
@@ -261,9 +266,12 @@ fn names_of(
     Ok(names)
 }
 
-/// Returns the circuit with its inputs and outputs in the order of the automaton's propositions. It matches them by the
-/// names that the symbols give, or, with `by_place`, by their order. Each proposition of the environment has an input
-/// of its own and each of the controller an output, and none is left over.
+/// Returns the circuit with its inputs and outputs in the order of the automaton's propositions. It matches them by the names that the
+/// symbols give, or, with `by_place`, by their order. Each proposition of the environment has an input of its own and each of the
+/// controller an output, and none is left over.
+///
+/// It fails with `NoSymbols` if it needs names and no input and no output has one, with `Inputs` or `Outputs` at the first of the two
+/// sides that doesn't match, and with `OutOfMemory` if memory runs out.
 pub fn tie<'a>(
     alloc: Global,
     automaton: &Automaton,
@@ -273,7 +281,7 @@ pub fn tie<'a>(
     ensures tied { IfOk result (λ x. IsTied by_place automaton.now (circuit_in parts.entry) (symbols_in parts.entry) (circuit_in x)) }
     ensures refused { IfErr result (IsTieFault by_place automaton.now (circuit_in parts.entry) (symbols_in parts.entry)) }
 {
-    // asked for what its contract says of the automaton
+    // called only for what its contract says about the automaton
     let _states = automaton.states();
     let Parts {
         greatest,

@@ -20,7 +20,7 @@ pub record IsGreatest (p : ℕ) (priorities : List ℕ) : Type 0 where
   pub occurs : Contains priorities p
   pub above_all : All (λ q. q ≤ p) priorities
 
--- What is said of one vertex. In a game a successor is the number of a vertex: its place in the game, from 0.
+-- The contents of one vertex. In a game a successor is the number of a vertex: its place in the game, from 0.
 pub record GameVertex : Type 0 where
   pub identifier : ℕ
   pub priority : ℕ
@@ -28,7 +28,7 @@ pub record GameVertex : Type 0 where
   pub successors : List ℕ
   pub name : Option (List ℕ)
 
--- what stands at a number past the last vertex
+-- the vertex at a number past the last one
 abbrev pub nowhere : GameVertex
 nowhere = record { identifier = 0; priority = 0; owner = Even; successors = []; name = None }
 
@@ -70,7 +70,7 @@ pub record IsGame (game : List GameVertex) : Type 0 where
   pub successors_rise : (v : ℕ) → IsStrictlyIncreasing (successors game v)
   pub in_range : (v w : ℕ) → IsEdge game v w → w < length game
 
--- how large a game may be
+-- the size of a game is within the limits
 pub record IsWithinLimits (game : List GameVertex) : Type 0 where
   pub vertices : length game ≤ MAX_VERTICES
   pub edges : edge_count game ≤ MAX_EDGES
@@ -84,10 +84,10 @@ abbrev pub IsPath : (ℕ → ℕ → Type 0) → ℕ → List ℕ → Type 0
 IsPath Step v [] = Unit {0}
 IsPath Step v (w ∷ rest) = Step v w × IsPath Step w rest
 
--- the vertex of the other player, with its priority raised by one
+-- the vertex with the other player as its owner and its priority raised by one
 abbrev pub dual_vertex : GameVertex → GameVertex
 dual_vertex x = record x { owner = opponent x.owner; priority = x.priority + 1 }
 
--- the dual: owners swapped and each priority raised by one, all else kept
+-- the dual: owners are swapped, each priority is raised by one, and everything else is kept
 abbrev pub dual : List GameVertex → List GameVertex
 dual game = map dual_vertex game

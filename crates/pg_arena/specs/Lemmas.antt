@@ -1,2 +1,2 @@
--- Lemmas that ghost members cite, which have to stand with the definitions.
+-- Lemmas that ghost members cite, and which must be with the definitions.
 pub mod Duals

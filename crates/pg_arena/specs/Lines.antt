@@ -12,7 +12,7 @@ use Rattle.pg_arena.specs.declared.fault.ArenaFault.TheVariants.{TooManyVertices
 use Rattle.pg_arena.specs.declared.limits.TheConstants.{MAX_PRIORITY, MAX_VERTICES, MAX_EDGES}
 use Rattle.pg_arena.specs.Games.{GameVertex, IsGame, identifier, edge_count}
 
--- A line says of a vertex what a game says of it, but that a successor is given by its identifier.
+-- A line says the same of a vertex as a game, except that it gives a successor by its identifier.
 abbrev pub Line : Type 0
 Line = GameVertex
 
@@ -29,7 +29,7 @@ counted line = record line { successors = rising line.successors }
 abbrev pub is_named : List Line → ℕ → Bool
 is_named lines n = list_any (λ line. n == line.identifier) lines
 
--- why a line may not follow these lines: the first reason
+-- the first reason why a line may not follow these lines, if there is one
 abbrev pub add_fault : List Line → Line → Option ArenaFault
 add_fault lines line =
     if nat_lt MAX_PRIORITY line.priority then Some (PriorityTooLarge line.identifier line.priority)
@@ -39,7 +39,7 @@ add_fault lines line =
     else (if nat_lt MAX_EDGES (edge_count lines + length line.successors) then Some TooManyEdges
     else None))))
 
--- the call succeeds where there is no reason against it, and else names the reason; memory may run out
+-- the call succeeds if there is no reason against it, and otherwise fails with the reason; memory may run out
 abbrev pub Answers : {T : Type 0} → Result T ArenaFault → Option ArenaFault → Type 0
 Answers (Ok x) reason = reason ≡ None
 Answers (Err OutOfMemory) reason = Unit {0}
@@ -57,7 +57,7 @@ line_of game x = record x { successors = map (identifier game) x.successors }
 abbrev pub lines_of : List GameVertex → List Line
 lines_of game = map (line_of game) game
 
--- the game of these lines: its vertices are the lines in another order
+-- the game of these lines: its vertices are the lines in some order
 pub record IsGameOf (lines : List Line) (game : List GameVertex) : Type 0 where
   pub well : IsGame game
   pub same : IsPermutation lines (lines_of game)
@@ -70,7 +70,7 @@ pub record IsUnknown (lines : List Line) (identifier successor : ℕ) : Type 0 w
   pub leads : Contains line.successors successor
   pub undefined : is_named lines successor ≡ false
 
--- the successor that no line defines: of the least identifier, and there the least
+-- the successor that no line defines: the least one of the least identifier that has one
 pub record IsLeastUnknown (lines : List Line) (identifier successor : ℕ) : Type 0 where
   pub unknown : IsUnknown lines identifier successor
   pub least_identifier : (other any : ℕ) → IsUnknown lines other any → identifier ≤ other

@@ -1,3 +1,4 @@
--- What mirrors code: contracts of private functions cite it, and no definition that a reader has to believe does.
+-- Definitions that mirror code: contracts of private functions cite them, and no definition that a reader has to
+-- believe does.
 pub mod Entries
 pub mod Links

@@ -33,7 +33,7 @@ impl Model for GameBuilder {
 }
 
 impl GameBuilder {
-    /// A builder without lines.
+    /// Returns a builder without lines.
     pub fn new(alloc: Global) -> GameBuilder
         ensures { result ≡ [] }
     {
@@ -97,7 +97,7 @@ fn rise(numbers: &[u32]) -> bool
     numbers.is_sorted_by(|a, b| a < b)
 }
 
-/// Makes the list that of the numbers, each once, the least first.
+/// Replaces the list with the numbers, each once, the least first.
 fn put_each_once(list: &mut Vec<u32>, numbers: &[u32]) -> Result<(), AllocError>
     ensures { OnOk result (list.new.items ≡ rising numbers.now) }
 {

@@ -6,7 +6,8 @@ ghost use Rattle.pg_arena.specs.Mirrors.Entries.{dual_entry};
 use crate::limits::MAX_PRIORITY;
 use crate::player::Player;
 
-/// A vertex but for its identifier and its name. Its successors stand from `from` to `to` in a list of all.
+/// A vertex without its identifier and its name. Its successors are at the places from `from` up to `to` in a list of
+/// all successors.
 #[derive(Clone, Copy)]
 pub(crate) struct Entry {
     pub priority: u32,
@@ -16,7 +17,7 @@ pub(crate) struct Entry {
 }
 
 impl Entry {
-    /// The vertex of the other player, with its priority raised by one.
+    /// Returns the vertex with the other player as its owner and its priority raised by one.
     pub fn dual(self) -> Entry
         requires { self.priority ≤ MAX_PRIORITY }
         ensures { result ≡ dual_entry self }

@@ -10,7 +10,7 @@ use std::fmt;
 /// Why lines make no game. Numbers are identifiers, except for the second one of `PriorityTooLarge`.
 #[derive(Clone, Copy, Debug, PartialEq, Eq)]
 pub enum ArenaFault {
-    /// A growth was refused.
+    /// Memory ran out.
     OutOfMemory,
     /// A second line has this identifier.
     DuplicateVertex(u32),

@@ -23,7 +23,7 @@ pub struct Game {
     shared: Rc<Shared>,
 }
 
-/// What a game has in common with its dual.
+/// The parts that a game shares with its dual.
 #[derive(Drop)]
 pub(crate) struct Shared {
     identifiers: Vec<u32>,
@@ -77,7 +77,7 @@ impl Game {
         Ok(Game { entries, shared })
     }
 
-    /// The number of vertices, from 1 to 1,048,576.
+    /// Returns the number of vertices, from 1 to 1,048,576.
     pub fn len(&self) -> usize
         ensures value { result ≡ length self.now }
         ensures game { IsGame self.now }
@@ -89,7 +89,7 @@ impl Game {
         identifiers.len()
     }
 
-    /// The identifier of a vertex, its name in texts.
+    /// Returns the identifier of a vertex, which names it in texts.
     pub fn identifier(&self, v: Vertex) -> u32
         requires { v < length self.now }
         ensures { result ≡ identifier self.now v }
@@ -97,7 +97,7 @@ impl Game {
         identifier_at(&self.shared.identifiers, v.0)
     }
 
-    /// The priority of a vertex, at most 65,535, or 65,536 in a dual.
+    /// Returns the priority of a vertex, at most 65,535, or 65,536 in a dual.
     pub fn priority(&self, v: Vertex) -> u32
         requires { v < length self.now }
         ensures { result ≡ priority self.now v }
@@ -105,7 +105,7 @@ impl Game {
         self.entries[v.0 as usize].priority
     }
 
-    /// The player who chooses the successor at a vertex.
+    /// Returns the player who chooses the successor at a vertex.
     pub fn owner(&self, v: Vertex) -> Player
         requires { v < length self.now }
         ensures { result ≡ owner self.now v }
@@ -113,7 +113,7 @@ impl Game {
         self.entries[v.0 as usize].owner
     }
 
-    /// The successors of a vertex, rising and distinct; there is at least one.
+    /// Returns the successors of a vertex, rising and distinct; there is at least one.
     pub fn successors(&self, v: Vertex) -> &[Vertex]
         requires { v < length self.now }
         ensures { result.now ≡ successors self.now v }
@@ -122,7 +122,7 @@ impl Game {
         &self.shared.targets[entry.from as usize..entry.to as usize]
     }
 
-    /// The name of a vertex, if it has one.
+    /// Returns the name of a vertex, if it has one.
     pub fn name(&self, v: Vertex) -> Option<&[u8]>
         requires { v < length self.now }
         ensures { option_copied result ≡ name self.now v }
@@ -131,8 +131,8 @@ impl Game {
         name_at(&self.shared.names, place)
     }
 
-    /// The vertex with this identifier, if there is one. It takes a binary search, or constant time if every identifier
-    /// between the least one and this one is used.
+    /// Returns the vertex with this identifier, if there is one. It takes a binary search, or constant time if every
+    /// identifier between the least one and this one is used.
     pub fn vertex_of(&self, identifier: u32) -> Option<Vertex>
         ensures found { IfSome result (λ v. (v < length self.now) × ((vertex_at self.now v).identifier ≡ identifier)) }
         ensures missing { IfNone result

@@ -1,4 +1,4 @@
-//! The identifiers of lines, as the lines come.
+//! The identifiers of lines, in the order of the lines.
 
 ghost use Rattle.std.specs.Prelude.{◌≡◌, ℕ, ◌++◌, ◌∷◌, [], ◌==◌, IsTrue, IfOk, OnOk, OnErr};
 ghost use Rattle.std.specs.List.{list_any};
@@ -11,7 +11,7 @@ use std::alloc::{AllocError, Global};
 use std::collections::BTreeSet;
 use std::marker::Model;
 
-/// The identifiers in the order in which they came. As long as they rise, nothing but the list is kept.
+/// The identifiers in the order in which they came. As long as they rise, only the list is kept.
 #[derive(Drop)]
 pub(crate) struct Identifiers {
     list: Vec<u32>,
@@ -41,14 +41,14 @@ impl Identifiers {
         }
     }
 
-    /// Whether they rise.
+    /// Whether the identifiers rise.
     pub fn rise(&self) -> bool
         ensures { IsTrue result → IsStrictlyIncreasing self.now }
     {
         self.set.is_none()
     }
 
-    /// Whether this is one of them.
+    /// Whether this is one of the identifiers.
     pub fn contains(&self, identifier: u32) -> bool
         ensures { result ≡ list_any (λ x. identifier == x) self.now }
     {
@@ -58,7 +58,7 @@ impl Identifiers {
         }
     }
 
-    /// Adds an identifier behind the others.
+    /// Appends an identifier.
     #[inline(always)]
     pub fn push(&mut self, identifier: u32) -> Result<(), AllocError>
         ensures ok { OnOk result (self.new ≡ self.old ++ identifier ∷ []) }
@@ -70,7 +70,7 @@ impl Identifiers {
         Ok(())
     }
 
-    /// The list of them.
+    /// Returns the list of the identifiers.
     pub fn into_list(self) -> Vec<u32>
         ensures { result.items ≡ self }
     {
@@ -83,7 +83,7 @@ impl Identifiers {
     }
 }
 
-/// Gets the set ready for one more identifier, which needs none where the identifiers still rise.
+/// Gets the set ready for one more identifier. If the identifiers still rise, no set is needed.
 #[inline(always)]
 fn note(
     alloc: Global,

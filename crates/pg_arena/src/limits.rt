@@ -1,6 +1,6 @@
 //! The limits on games.
 
-/// The greatest priority of a game; that of a dual is one more.
+/// The greatest priority of a game; the greatest priority of a dual is one more.
 pub const MAX_PRIORITY: u32 = 65_535;
 
 /// The greatest number of vertices in a game.

@@ -19,7 +19,7 @@ use std::alloc::{AllocError, Global};
 use std::marker::Model;
 
 /// The lines in the order in which they came. Targets are identifiers until `finish` makes them vertices. The name of a
-/// line stands in the list of names, and where it does in the list of places, which ends with the last line that has a
+/// line is in the list of names. Its place there is in the list of places, which ends with the last line that has a
 /// name.
 #[derive(Drop)]
 pub(crate) struct GivenLines {
@@ -80,7 +80,7 @@ impl GivenLines {
         Ok(())
     }
 
-    /// The first reason against a line, if there is one.
+    /// Returns the first reason against a line, if there is one.
     #[inline(always)]
     fn fault_of(&self, identifier: u32, priority: u32, successors: &[u32]) -> Option<ArenaFault>
         ensures { (line : Line) → line.identifier ≡ identifier → line.priority ≡ priority
@@ -104,7 +104,7 @@ impl GivenLines {
         None
     }
 
-    /// Adds a line against which there is no reason.
+    /// Adds a line that there is no reason against.
     #[inline(always)]
     fn put(
         &mut self,
@@ -139,7 +139,7 @@ impl GivenLines {
         Ok(())
     }
 
-    /// The game of the lines.
+    /// Makes the game of the lines.
     pub fn finish(self) -> Result<Game, ArenaFault>
         ensures game { IfOk result (λ game. IsGameOf self game) }
         ensures priorities { IfOk result (HasPrioritiesUpTo MAX_PRIORITY) }
@@ -166,7 +166,7 @@ impl GivenLines {
     }
 }
 
-/// Puts identifiers behind the other targets. There is room for them.
+/// Appends identifiers to the targets. There is room for them.
 #[inline(always)]
 fn put_all(targets: &mut Vec<Vertex>, identifiers: &[u32])
     requires { length targets.old.items + length identifiers.now ≤ vec_capacity targets.old }
@@ -207,7 +207,7 @@ fn make_room(
     places.reserve(line + 1 - places.len())
 }
 
-/// Puts a name behind the others, and notes its place behind those of all lines before this one. There is room for
+/// Appends a name, if there is one, and notes its place after those of all lines before this one. There is room for
 /// both.
 #[inline(always)]
 fn keep(names: &mut Vec<Vec<u8>>, places: &mut Vec<Option<u32>>, line: usize, name: Option<Vec<u8>>)

@@ -1,4 +1,4 @@
-//! Successors by identifier made vertices, in place.
+//! Turns successors that are identifiers into vertices, in place.
 
 ghost use Rattle.std.specs.Prelude.{◌≡◌, ◌<◌, ◌≤◌, [], length, map, not, slice_index, All, IsTrue, IsFalse};
 ghost use Rattle.std.specs.List.Sorted.{IsStrictlyIncreasing};
@@ -10,8 +10,8 @@ use crate::limits::MAX_VERTICES;
 use crate::place::place_of;
 use crate::vertex::Vertex;
 
-/// Makes each target, an identifier, the vertex that has it, and answers true. Where no vertex has one of them, all
-/// stay identifiers and the answer is false.
+/// Replaces each target, an identifier, with the vertex that has it, and returns true. If no vertex has one of them,
+/// all stay identifiers and it returns false.
 pub(crate) fn link(identifiers: &[u32], targets: &mut [Vertex]) -> bool
     requires few { length identifiers.now ≤ MAX_VERTICES }
     requires rising { IsStrictlyIncreasing identifiers.now }
@@ -32,7 +32,7 @@ pub(crate) fn link(identifiers: &[u32], targets: &mut [Vertex]) -> bool
     true
 }
 
-/// Makes each vertex its identifier again.
+/// Replaces each vertex with its identifier again.
 fn unlink(identifiers: &[u32], targets: &mut [Vertex])
     requires { All (λ v. v < length identifiers.now) targets.old }
     ensures { targets.new ≡ map (slice_index identifiers.now) targets.old }
@@ -42,8 +42,8 @@ fn unlink(identifiers: &[u32], targets: &mut [Vertex])
     }
 }
 
-/// The first vertex with a successor that is no vertex, by its identifier, and there the first such successor. The
-/// targets are identifiers.
+/// Returns the identifier of the first vertex with a successor that is no vertex, and the first such successor, if
+/// there is one. The targets are identifiers.
 pub(crate) fn first_unknown(
     identifiers: &[u32],
     entries: &[Entry],

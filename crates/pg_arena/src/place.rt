@@ -1,10 +1,11 @@
-//! Where an identifier stands among rising ones.
+//! The place of an identifier among rising ones.
 
 ghost use Rattle.std.specs.Prelude.{◌≡◌, ◌<◌, ◌+◌, ℕ, false, length, slice_index, IsTrue, IfSome, IfNone};
 ghost use Rattle.std.specs.List.Sorted.{IsStrictlyIncreasing};
 ghost use Rattle.pg_arena.specs.Mirrors.Links.{is_among};
 
-/// Whether no number is left out between the least identifier and the greatest, so that each place tells which one stands there.
+/// Whether no number is missing between the least identifier and the greatest, so that each place determines its
+/// identifier.
 #[inline(always)]
 fn is_run(identifiers: &[u32]) -> bool
     requires { IsStrictlyIncreasing identifiers.now }
@@ -18,7 +19,7 @@ fn is_run(identifiers: &[u32]) -> bool
     }
 }
 
-/// The identifier at a place. Where no number is left out the list isn't looked at there.
+/// Returns the identifier at a place. If no number is missing, the list isn't read there.
 #[inline(always)]
 pub(crate) fn identifier_at(identifiers: &[u32], place: u32) -> u32
     requires rising { IsStrictlyIncreasing identifiers.now }
@@ -31,7 +32,8 @@ pub(crate) fn identifier_at(identifiers: &[u32], place: u32) -> u32
     identifiers[place as usize]
 }
 
-/// The place of an identifier, looked for first where it stands if no number is left out between the least one and it.
+/// Returns the place of an identifier, if there is one. It looks first where the identifier would be if no number were
+/// missing between the least one and it.
 pub(crate) fn place_of(identifiers: &[u32], identifier: u32) -> Option<usize>
     requires { IsStrictlyIncreasing identifiers.now }
     ensures within { IfSome result (λ i. i < length identifiers.now) }

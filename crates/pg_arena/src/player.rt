@@ -11,7 +11,7 @@ pub enum Player {
 }
 
 impl Player {
-    /// The other player.
+    /// Returns the other player.
     pub fn opponent(self) -> Player
         ensures { result ≡ opponent self }
     {

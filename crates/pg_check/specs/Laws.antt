@@ -8,8 +8,7 @@ use Rattle.pg_check.specs.Plays.{IsPlay, IsGreatestRecurring, Loses, stretch}
 use Rattle.pg_text.specs.Solutions.{IsSolution}
 use Rattle.pg_check.specs.Soundness.{Counts, IsSound, IsSafe, KeepsCount, Wins}
 
--- a play has at most one greatest recurring priority, isn't without one, and so isn't lost by
--- both players or by neither
+-- a play has at most one greatest recurring priority and can't be without one, and so it isn't lost by both players or by neither
 pub record HasOneLoser (met : ℕ → ℕ) : Type 0 where
   pub at_most_one : (p q : ℕ) → IsGreatestRecurring met p → IsGreatestRecurring met q → p ≡ q
   pub not_none : ¬ ¬ ((p : ℕ) × IsGreatestRecurring met p)

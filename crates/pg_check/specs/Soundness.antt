@@ -52,7 +52,7 @@ abbrev pub NoneLeaves : List GameVertex → List Answer → Type 0
 NoneLeaves game solution =
     (v w : ℕ) → Counts game solution v w → winner solution w ≡ winner solution v
 
--- v, then the rest and then v again by edges that count, where the greatest priority has the parity of the loser at v
+-- a cycle of edges that count from v through the rest back to v, on which the greatest priority has the parity of the loser at v
 pub record IsBadCycle (game : List GameVertex) (solution : List Answer) (v : ℕ) (rest : List ℕ) : Type 0 where
   pub closes : IsPath (Counts game solution) v (rest ++ v ∷ [])
   pub lost : (p : ℕ) × IsGreatest p (map (priority game) (v ∷ rest)) × HasParityOf (loser solution v) p

@@ -68,7 +68,7 @@ pub record IsLeastUndecided (game : List GameVertex) (f g : MapValue) (id : ℕ)
   pub named : id ≡ identifier game vertex
   pub least : (u : ℕ) → IsUndecided game f g u → vertex ≤ u
 
--- why there is no solution of two maps: memory aside, neither has a list at some vertex, of which the least is named
+-- why two maps give no solution: apart from memory, neither map has a list at some vertex, and the least such vertex is named
 abbrev pub StrategiesFail : List GameVertex → MapValue → MapValue → CheckFault → Type 0
 StrategiesFail game f g OutOfMemory = Unit {0}
 StrategiesFail game f g (Undecided id) = IsLeastUndecided game f g id
@@ -80,7 +80,7 @@ pub record IsCertifiedBy (bounds : BoundList) (lines : ℕ → Option Line) (f :
   pub stays : (w : ℕ) → Counts game solution v w → winner solution w ≡ winner solution v
   pub served : (w : ℕ) → Counts game solution v w → IsServedBy bounds lines f v w
 
--- by the player's map and game
+-- v is certified by the player's map and game
 abbrev pub IsCertifiedFor : Player → List GameVertex → MapValue → MapValue → List Answer → ℕ → Type 0
 IsCertifiedFor player game f g solution v =
     let m = map_of player f g in IsCertifiedBy m.bounds (game_line (game_of player game)) m.measures game solution v
@@ -89,7 +89,7 @@ IsCertifiedFor player game f g solution v =
 abbrev pub Certifies : List GameVertex → MapValue → MapValue → List Answer → Type 0
 Certifies game f g solution = (v : ℕ) → v < length game → IsCertifiedFor (winner solution v) game f g solution v
 
--- an edge by which Even goes to a successor that serves v in the map; Odd may go by any
+-- an edge along which Even goes only to a successor that serves v in the map; Odd may go along any edge
 abbrev pub GoesServed : List GameVertex → MapValue → ℕ → ℕ → Type 0
 GoesServed game f v w = IsEdge game v w × (owner game v ≡ Even → IsServedBy f.bounds (game_line game) f.measures v w)
 
@@ -120,7 +120,7 @@ ClosedMapsSound =
     (game : List GameVertex) (f g : MapValue) (solution : List Answer) → IsGame game → AreClosed game f g
     → IsSolutionOf game f g solution → IsSound game solution
 
--- also where the maps aren't closed
+-- a solution that two maps certify is sound, also where the maps aren't closed
 abbrev pub CertifiedSound : Type 0
 CertifiedSound =
     (game : List GameVertex) (f g : MapValue) (solution : List Answer) → IsGame game

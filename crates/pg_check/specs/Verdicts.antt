@@ -11,7 +11,7 @@ use Rattle.pg_check.specs.Soundness.{Counts, NoneLeaves, IsBadCycle}
 abbrev pub IsLeaving : List GameVertex → List Answer → ℕ → ℕ → Type 0
 IsLeaving game solution v w = Counts game solution v w × (winner solution w ≢ winner solution v)
 
--- the first of them, by where it comes from and then by where it leads
+-- the least of these edges, compared first by its source and then by its target
 pub record IsLeastLeaving (game : List GameVertex) (solution : List Answer) (v w : ℕ) : Type 0 where
   pub leaving : IsLeaving game solution v w
   pub least : (x y : ℕ) → IsLeaving game solution x y → (v < x) ⊎ ((v ≡ x) × (w ≤ y))
@@ -25,7 +25,7 @@ abbrev pub IsWins : Verdict → Type 0
 IsWins Wins = Unit {0}
 IsWins verdict = ⊥
 
--- what the answer names speaks against the solution
+-- what the verdict names speaks against the solution
 abbrev pub Refutes : List GameVertex → List Answer → Verdict → Type 0
 Refutes game solution Wins = Unit {0}
 Refutes game solution (Leaves v w) = IsLeastLeaving game solution v w

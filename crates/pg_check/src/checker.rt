@@ -18,7 +18,7 @@ use pg_arena::{Game, Vertex};
 use pg_text::Solution;
 use std::alloc::{AllocError, Global};
 
-/// A bad cycle on which no priority is greater than that of `v`.
+/// Returns a bad cycle through `v` on which no priority is greater than that of `v`, if there is one.
 fn bad_cycle_through(
     alloc: Global,
     game: &Game,
@@ -37,7 +37,7 @@ fn bad_cycle_through(
     cycle_through(alloc, game, solution, v)
 }
 
-/// A bad cycle, by a search from each vertex.
+/// Returns a bad cycle, if there is one, by a search from each vertex.
 fn search_each(
     alloc: Global,
     game: &Game,
@@ -55,8 +55,9 @@ fn search_each(
     Ok(None)
 }
 
-/// A bad cycle. An order that is proposed may show that there is none, or a suspect where one goes; else the search from each vertex
-/// decides. With what is proposed it never runs, but this isn't proved, nor needed.
+/// Returns a bad cycle, if there is one. A proposed order may show that there is none, or a proposed suspect that one goes through
+/// it; otherwise the search from each vertex decides. With what is proposed that search never runs, but this isn't proved, nor
+/// needed.
 fn bad_cycle(
     alloc: Global,
     game: &Game,

@@ -51,8 +51,8 @@ pub fn strategies<E: Measures, O: Measures>(
     Ok(solution)
 }
 
-/// What the player whose lines these are does at a vertex: on one of its own, which Even owns in the lines, it goes to the
-/// first successor that serves the vertex.
+/// Returns the choice of the player whose lines these are at a vertex. At a vertex of its own, which Even owns in the lines, that
+/// is the first successor that serves the vertex; elsewhere there is none.
 fn choice_at<M: Measures, G: Lines>(map: &M, lines: &G, v: Vertex) -> Option<Vertex>
     requires held { IsSome (G.line lines.now v) }
     requires within { AreWithin (length (M.map map.now).measures) (G.line lines.now) }

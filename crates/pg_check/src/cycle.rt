@@ -12,7 +12,8 @@ use pg_arena::{Game, Player, Vertex};
 use pg_text::Solution;
 use std::alloc::{AllocError, Global};
 
-/// Vertices as a search reached them, the place of the one before each, and the place of the one that closes the cycle.
+/// Vertices in the order in which a search reached them, the place of the one before each, and the place of the one that closes the
+/// cycle.
 #[derive(Drop)]
 pub(crate) struct Trail {
     reached: Vec<Vertex>,
@@ -33,8 +34,8 @@ pub(crate) fn is_lost(game: &Game, solution: &Solution, v: Vertex) -> bool
     game.priority(v) % 2 == remainder
 }
 
-/// A search by breadth: the vertices that it has reached, the place of the one before each, and for each vertex whether
-/// it is reached.
+/// A breadth-first search: the vertices that it has reached, the place of the one before each, and for each vertex of the game
+/// whether it is reached.
 #[derive(Drop)]
 struct Exploration {
     reached: Vec<Vertex>,
@@ -43,7 +44,7 @@ struct Exploration {
 }
 
 impl Exploration {
-    /// A search among so many vertices that has reached the one that it begins at.
+    /// Begins a search among `count` vertices, which has reached only `v`.
     fn new(alloc: Global, count: usize, v: Vertex) -> Result<Exploration, AllocError>
         requires { v < count }
         ensures reached { IfOk result (λ search. search.reached.items ≡ v ∷ []) }
@@ -78,8 +79,8 @@ impl Exploration {
         Ok(())
     }
 
-    /// Takes the edges that count from the vertex at a place through priorities up to that of `v`, and tells whether
-    /// one leads back to `v`.
+    /// Follows the edges that count from the vertex at a place through priorities up to that of `v`. Returns whether one leads back
+    /// to `v`.
     fn visit(
         &mut self,
         game: &Game,
@@ -112,7 +113,7 @@ impl Exploration {
     }
 }
 
-/// Searches breadth first, from `v` by edges that count and through priorities up to its own, for an edge back to it.
+/// Searches breadth-first from `v`, by edges that count and through priorities up to its own, for an edge back to `v`.
 fn explore(
     alloc: Global,
     game: &Game,
@@ -140,7 +141,8 @@ fn explore(
     Ok(None)
 }
 
-/// A cycle of edges that count through `v` on which no priority is greater than that of `v`, from `v` on.
+/// Returns a cycle of edges that count through `v` on which no priority is greater than that of `v`, if there is one. It begins
+/// with `v`.
 pub(crate) fn cycle_through(
     alloc: Global,
     game: &Game,

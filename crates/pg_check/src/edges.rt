@@ -9,7 +9,7 @@ ghost use Rattle.pg_check.specs.Verdicts.{IsLeastLeaving};
 use pg_arena::{Game, Vertex};
 use pg_text::Solution;
 
-/// The part of the vertices that is `chosen` alone, or nothing where it isn't among them.
+/// Returns the part of the vertices that is `chosen` alone, or an empty part if it isn't among them.
 #[inline(always)]
 fn only<'a>(vertices: &'a [Vertex], chosen: Vertex) -> &'a [Vertex]
     ensures chosen { (w : ℕ) → Contains result.now w ↔ (Contains vertices.now w × w ≡ chosen) }
@@ -23,7 +23,8 @@ fn only<'a>(vertices: &'a [Vertex], chosen: Vertex) -> &'a [Vertex]
     &vertices[..0]
 }
 
-/// Where the edges that count lead from `v`, rising: to all successors if the loser owns `v`, and else to the choice.
+/// Returns where the edges that count lead from `v`, in rising order: to all successors if the loser owns `v`, and otherwise to the
+/// choice.
 pub(crate) fn counted<'a>(game: &'a Game, solution: &Solution, v: Vertex) -> &'a [Vertex]
     requires whole { length solution.now ≡ length game.now }
     requires within { v < length game.now }
@@ -40,7 +41,7 @@ pub(crate) fn counted<'a>(game: &'a Game, solution: &Solution, v: Vertex) -> &'a
     }
 }
 
-/// The least edge that counts and joins vertices with different winners.
+/// Returns the least edge that counts and joins vertices with different winners, if there is one.
 pub(crate) fn first_leaving(game: &Game, solution: &Solution) -> Option<(Vertex, Vertex)>
     requires { length solution.now ≡ length game.now }
     ensures none { IfNone result (NoneLeaves game.now solution.now) }

@@ -14,7 +14,7 @@ use pg_search_winners::{Graph, WinningOrder, find_order};
 use pg_text::Solution;
 use std::alloc::{AllocError, Global};
 
-/// A solution, and an order that is to show that it is sound: what Even wins stands before the split.
+/// A solution, and an order meant to show that it is sound, in which what Even wins stands before the split.
 #[derive(Drop)]
 struct Ordered {
     solution: Solution,
@@ -44,7 +44,7 @@ fn has_all(game: &Game, player: Player) -> bool
     true
 }
 
-/// The player whose parity all priorities have, if there is one.
+/// Returns the player whose parity all priorities have, if there is one.
 fn winner_of_all(game: &Game) -> Option<Player>
     ensures { IfSome result (λ player. AllHaveParityOf player game.now) }
 {
@@ -57,7 +57,7 @@ fn winner_of_all(game: &Game) -> Option<Player>
     }
 }
 
-/// The first successor, where the player owns the vertex.
+/// Returns the first successor if the player owns the vertex.
 fn first_choice(game: &Game, player: Player, v: Vertex) -> Option<Vertex>
     requires { v < length game.now }
     ensures { IsAnyChoice game.now player v result }
@@ -69,7 +69,7 @@ fn first_choice(game: &Game, player: Player, v: Vertex) -> Option<Vertex>
     game.successors(v).first().copied()
 }
 
-/// A solution of a game in which all priorities are one player's: that wins everywhere, by whatever successors.
+/// Returns a solution of a game in which all priorities are one player's: that player wins everywhere, by whatever successors.
 fn won_by(alloc: Global, game: &Game, winner: Player) -> Result<Solution, AllocError>
     requires { AllHaveParityOf winner game.now }
     ensures { IfOk result (IsSoundSolution game.now) }
@@ -82,7 +82,7 @@ fn won_by(alloc: Global, game: &Game, winner: Player) -> Result<Solution, AllocE
     Ok(solution)
 }
 
-/// The solution of winners that were found, by their order.
+/// Returns the solution of the winners that were found, with their order.
 fn solved_by(alloc: Global, game: &Game, found: WinningOrder) -> Result<Ordered, AllocError>
     ensures { IfOk result (λ o. length o.solution ≡ length game.now) }
 {
@@ -111,7 +111,7 @@ fn solved_by(alloc: Global, game: &Game, found: WinningOrder) -> Result<Ordered,
     })
 }
 
-/// What is proposed of a game.
+/// Proposes a solution of a game, with an order.
 fn propose(alloc: Global, game: &Game) -> Result<Ordered, AllocError>
     ensures { IfOk result (λ o. length o.solution ≡ length game.now) }
 {
@@ -119,9 +119,9 @@ fn propose(alloc: Global, game: &Game) -> Result<Ordered, AllocError>
     solved_by(alloc, game, find_order(alloc, graph)?)
 }
 
-/// Finds a sound solution of a game; the contract doesn't say which one. It has a choice at a vertex if and only if the
-/// winner owns the vertex. The answer is None if the proposal turns out to be wrong; no game is known for which that
-/// happens. It fails only if memory runs out.
+/// Finds a sound solution of a game; the contract doesn't say which one. It has a choice at a vertex if and only if the winner owns
+/// the vertex. Returns `None` if the proposal turns out to be wrong; no game is known for which that happens. It fails only if
+/// memory runs out.
 pub fn find_solution(alloc: Global, game: &Game) -> Result<Option<Solution>, AllocError>
     ensures { IfOk result (λ found. IfSome found (IsSoundSolution game.now)) }
 {

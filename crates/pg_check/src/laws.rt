@@ -16,7 +16,8 @@ pub fn one_recurring()
     ensures { OneRecurring }
 {}
 
-/// The same of a play that is given.
+/// A given play doesn't have two greatest recurring priorities, and it is impossible that it has none. So it isn't lost by both
+/// players, and it is impossible that it is lost by neither.
 pub fn one_recurring_of<P: Play>(play: &P)
     requires { IsGame (P.game play.now) }
     ensures { HasOneLoser (λ t. priority (P.game play.now) (P.vertex play.now t)) }
@@ -28,7 +29,8 @@ pub fn sound_wins()
     ensures { SoundWins }
 {}
 
-/// The same of a play that is given.
+/// A given play that follows a sound solution stays among the vertices of its first vertex's winner. No finite part of it meets the
+/// loser's greatest priority more often than the game has vertices, and that winner wins it.
 pub fn sound_wins_of<P: Play>(play: &P)
     requires { IsGame (P.game play.now) }
     ensures { (solution : List Answer) → IsSound (P.game play.now) solution

@@ -1,7 +1,8 @@
 //! Whether an order of the vertices shows that there is no bad cycle.
 //!
-//! Each vertex has a height, which is odd where the vertex is lost, and stands at a place; others may stand there too. Edges that count
-//! lead from a place to places before its end. So who should win wins the cycles where the spans of the places are nested.
+//! Each vertex has a height, which is odd where the vertex is lost, and stands at a place, where others may stand too. Edges that
+//! count lead from a place to places before its end. So if the spans of the places are nested, who should win the cycles does win
+//! them.
 
 ghost use Rattle.std.specs.Prelude.{◌≡◌, ◌%◌, ◌<◌, ◌≤◌, length, slice_index};
 ghost use Rattle.std.specs.Bool.{OnTrue};
@@ -21,7 +22,7 @@ pub(crate) struct Order {
 }
 
 impl Order {
-    /// The place of a vertex.
+    /// Returns the place of a vertex.
     #[inline(always)]
     pub fn place(&self, v: Vertex) -> u32
         requires { v < length self.now.places.items }
@@ -30,7 +31,7 @@ impl Order {
         self.places[v.0 as usize]
     }
 
-    /// The span of a place, past the last one that of nothing.
+    /// Returns the span of a place. Past the last place, its priority and its end are 0.
     #[inline(always)]
     fn span(&self, place: u32) -> Span
         ensures { result ≡ span_at self.now.spans.items place }
@@ -42,7 +43,7 @@ impl Order {
     }
 }
 
-/// The height of a vertex: even where its priority is one of the winner's.
+/// Returns the height of a vertex, which is even where its priority is one of the winner's.
 #[inline(always)]
 pub(crate) fn height(game: &Game, solution: &Solution, v: Vertex) -> u32
     requires whole { length solution.now ≡ length game.now }
@@ -57,7 +58,8 @@ pub(crate) fn height(game: &Game, solution: &Solution, v: Vertex) -> u32
     game.priority(v) + raised
 }
 
-/// Whether a vertex of this height may stand where this is said: its height, or where that is even up to its height.
+/// Whether a vertex of this height may stand at a place with this priority, which is the height, or at most the height if that is
+/// even.
 #[inline(always)]
 fn is_said_of(priority: u32, height: u32) -> bool
     ensures low { OnTrue result (priority ≤ height) }
@@ -70,7 +72,8 @@ fn is_said_of(priority: u32, height: u32) -> bool
     }
 }
 
-/// Whether a vertex stands as it should: its place may say what it says, and edges that count lead before the end.
+/// Whether a vertex stands as it should: the priority of its place suits its height, and edges that count lead before the end of
+/// its place.
 #[inline(always)]
 pub(crate) fn stands(game: &Game, solution: &Solution, order: &Order, v: Vertex) -> bool
     requires whole { length solution.now ≡ length game.now }

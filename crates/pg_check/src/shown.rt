@@ -1,4 +1,4 @@
-//! Solutions that come with an order that is to show that they are sound.
+//! Solutions that come with an order meant to show that they are sound.
 
 ghost use Rattle.std.specs.Prelude.{◌≡◌, ◌<◌, length};
 ghost use Rattle.std.specs.Bool.{OnTrue};
@@ -11,7 +11,7 @@ use pg_arena::{Game, Player, Vertex};
 use pg_check_order::are_nested;
 use pg_text::Solution;
 
-/// Whether a place is on the side of a player: before the split if that is Even, and else from there on.
+/// Whether a place is on the side of a player: before the split for Even, and from the split on for Odd.
 #[inline(always)]
 fn is_on_side(split: u32, player: Player, place: u32) -> bool
     ensures { OnTrue result (IsOnSide split player place) }
@@ -22,8 +22,8 @@ fn is_on_side(split: u32, player: Player, place: u32) -> bool
     }
 }
 
-/// Whether the winner of a vertex goes on there as it should: the vertex stands on the winner's side, an edge counts, those that do lead
-/// to that side, and where the loser owns the vertex there is no choice.
+/// Whether the winner of a vertex goes on there as it should: the vertex stands on the winner's side; at least one edge counts, and
+/// all that count lead to that side; and where the loser owns the vertex, there is no choice.
 #[inline(always)]
 fn goes_on(game: &Game, solution: &Solution, order: &Order, split: u32, v: Vertex) -> bool
     requires whole { length solution.now ≡ length game.now }
@@ -51,8 +51,8 @@ fn goes_on(game: &Game, solution: &Solution, order: &Order, split: u32, v: Verte
     true
 }
 
-/// Whether an order shows that a solution is sound, which has a choice exactly where the winner owns the vertex. What Even wins has to stand
-/// before the split, so that the place of a successor tells its winner. Each vertex and edge is looked at once.
+/// Whether an order shows that a solution is sound and has a choice exactly where the winner owns the vertex. What Even wins must
+/// stand before the split, so that the place of a successor shows its winner. Each vertex is visited once, with its edges.
 pub(crate) fn is_shown(game: &Game, solution: &Solution, order: &Order, split: u32) -> bool
     requires { length solution.now ≡ length game.now }
     ensures { OnTrue result (IsSoundSolution game.now solution.now) }

@@ -1,4 +1,4 @@
-//! Laws over the definitions. Their functions take no memory and do nothing: their contracts are what they are for.
+//! Laws over the definitions. Each function states one in its contract; it takes no memory and does nothing.
 
 ghost use Rattle.pg_check_determined.specs.Winners.{HasSoundSolution, EachHasOneWinner, LeastTellsWinners, NeverUndecided};
 
@@ -8,8 +8,8 @@ pub fn has_sound_solution()
     ensures { HasSoundSolution }
 {}
 
-/// From each vertex of a game one player wins and the other doesn't, and every sound solution gives the vertex to the
-/// one who wins.
+/// From each vertex of a game one player wins and the other doesn't, and every sound solution gives the vertex to the player who
+/// wins.
 pub fn each_has_one_winner()
     ensures { EachHasOneWinner }
 {}

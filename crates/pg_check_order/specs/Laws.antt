@@ -4,8 +4,8 @@ use Rattle.pg_arena.specs.declared.player.Player.{Player}
 use Rattle.pg_check_order.specs.declared.span.Span.{Span}
 use Rattle.pg_check_order.specs.Orders.{span_at, LeadsBefore, WinsCycles, AreNested}
 
--- Nodes of a graph have priorities and places. Where each edge leads from a node whose place has its priority to one that stands before
--- the end of that place, and the spans are nested for a player, this player wins the cycles.
+-- Nodes of a graph have priorities and places. If each edge leads from a node whose place has its priority to a node whose place is
+-- before the end of that place, and the spans are nested for a player, then this player wins the cycles.
 abbrev pub NestedIsWon : Type 0
 NestedIsWon =
     (player : Player) (spans : List Span) (edge : ℕ → ℕ → Bool) (priority place : ℕ → ℕ) → AreNested player spans

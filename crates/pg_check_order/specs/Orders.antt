@@ -9,16 +9,16 @@ abbrev pub WinsCycles : Player → (ℕ → ℕ → Type 0) → (ℕ → ℕ) �
 WinsCycles player Edge priority =
     (v : ℕ) (rest : List ℕ) (q : ℕ) → IsPath Edge v (rest ++ v ∷ []) → IsGreatest q (map priority (v ∷ rest)) → HasParityOf player q
 
--- the span of a place; past the last one nothing stands
+-- the span of a place; past the last one the priority and the end are 0
 abbrev pub span_at : List Span → ℕ → Span
 span_at spans i = slice_index_or spans i (record { priority = 0; end = 0 })
 
--- an edge leads from the place i to a place before its end
+-- an edge leads from the place i to a place before the end of i
 abbrev pub LeadsBefore : List Span → ℕ → ℕ → Type 0
 LeadsBefore spans i j = j < (span_at spans i).end
 
--- If the place i is before its own end then its priority is one of the player's. From the place on, before its end, nothing has a
--- greater priority or a later end.
+-- If the place i is before its own end, then its priority is one of the player's. From the place i on and before its end, nothing
+-- has a greater priority or a later end.
 pub record IsNested (player : Player) (spans : List Span) (i : ℕ) : Type 0 where
   pub won : i < (span_at spans i).end → HasParityOf player (span_at spans i).priority
   pub lower : (j : ℕ) → i ≤ j → LeadsBefore spans i j → (span_at spans j).priority ≤ (span_at spans i).priority

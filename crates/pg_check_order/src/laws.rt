@@ -2,7 +2,7 @@
 
 ghost use Rattle.pg_check_order.specs.Laws.{NestedIsWon};
 
-/// Where spans are nested for a player the cycles of edges that lead to places before the end are won by that player.
+/// If the spans are nested for a player, that player wins the cycles of edges that lead to places before the end.
 pub fn nested_is_won()
     ensures { NestedIsWon }
 {}

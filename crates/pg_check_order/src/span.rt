@@ -6,7 +6,7 @@ ghost use Rattle.pg_check_order.specs.Orders.{IsNested, AreNested};
 
 use pg_arena::Player;
 
-/// What is said of a place in an order: the priority of what stands there, and before which place its edges lead.
+/// What an order says of a place: the priority of what stands there, and the place before which its edges lead.
 #[derive(Clone, Copy)]
 pub struct Span {
     pub priority: u32,
@@ -23,8 +23,8 @@ fn has_parity_of(player: Player, priority: u32) -> bool
     }
 }
 
-/// Whether the span at a place is nested, where those at all later places are: what stands before the end of a later place needs no
-/// look.
+/// Whether the span at a place is nested, if the spans at all later places are. What stands before the end of a later place needs
+/// no look.
 fn is_nested(spans: &[Span], player: Player, i: usize) -> bool
     requires i { i < length spans.now }
     requires later { (j : ℕ) → i < j → IsNested player spans.now j }
@@ -46,8 +46,8 @@ fn is_nested(spans: &[Span], player: Player, i: usize) -> bool
     true
 }
 
-/// Whether the spans are nested for a player. Each place is looked at once for itself, and once from the last one before it whose end
-/// is after it.
+/// Whether the spans are nested for a player. Each place is looked at once for itself, and once from the last place before it whose
+/// end is after it.
 pub fn are_nested(spans: &[Span], player: Player) -> bool
     ensures { IsTrue result ↔ AreNested player spans.now }
 {

@@ -1,4 +1,4 @@
-//! Tests of `pg_check`: a solution of maps and what judges it, and a play.
+//! Tests of `pg_check`: a solution of maps and its checks, and a play.
 #![tactic(auto)]
 
 #[cfg(test)]

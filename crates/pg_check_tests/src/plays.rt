@@ -20,7 +20,7 @@ impl Play for Lonely {
     ghost goes_on = { λ _. lonely_goes_on };
 }
 
-/// It has one greatest recurring priority. The test is that this is proved: the contract follows from the law's.
+/// The play has one greatest recurring priority. The test is that this is proved: the contract follows from the law's.
 fn one_loser(play: &Lonely)
     ensures { HasOneLoser (λ t. priority lonely_game 0) }
 {

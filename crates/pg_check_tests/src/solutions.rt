@@ -1,5 +1,5 @@
-//! Solutions of maps, what certifies and checks them, and solutions that are found at once. More verdicts are shown by the rows of `check`, and
-//! by `tests/checks.py`.
+//! Solutions of maps, how they are certified and checked, and solutions that are found at once. The rows of `check` and
+//! `tests/checks.py` show more verdicts.
 
 ghost use Rattle.std.specs.Prelude.{◌≡◌, length};
 ghost use Rattle.pg_arena.specs.Games.{dual};

@@ -11,10 +11,10 @@ use pg_map::{MeasureMap, lift_to_end};
 use pg_measure::Bounds;
 use std::alloc::{AllocError, Global};
 
-/// A vertex by its identifier, priority, owner and the identifiers of its successors.
+/// A vertex, given by its identifier, priority, owner and the identifiers of its successors.
 pub struct Line<'a>(pub u32, pub u32, pub Player, pub &'a [u32]);
 
-/// The game of these lines.
+/// Makes the game of these lines.
 pub fn game_of(alloc: Global, lines: &[Line]) -> Result<Game, ArenaFault>
     ensures { IfOk result (HasPrioritiesUpTo 65535) }
 {
@@ -25,7 +25,7 @@ pub fn game_of(alloc: Global, lines: &[Line]) -> Result<Game, ArenaFault>
     builder.finish()
 }
 
-/// The least progress measure of a game.
+/// Returns the least progress measure of a game.
 pub fn least_map(alloc: Global, game: &Game) -> Result<MeasureMap, AllocError>
     ensures { IfOk result (λ map. length map.measures ≡ length game.now) }
 {
@@ -57,7 +57,7 @@ pub fn is_closed(map: &MeasureMap, game: &Game) -> bool
     }
 }
 
-/// Three vertices: Odd keeps the play on the odd priority of the second, Even keeps it on the third.
+/// Makes a game of three vertices: Odd keeps the play on the odd priority of the second one, Even keeps it on the third.
 pub fn three(alloc: Global) -> Result<Game, ArenaFault>
     ensures { IfOk result (HasPrioritiesUpTo 65535) }
 {

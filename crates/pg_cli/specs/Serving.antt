@@ -11,7 +11,7 @@ use Rattle.pg_cli_command.specs.declared.fault.CliFault.TheVariants.{OutOfMemory
 abbrev pub EndsServing : WorkerFault → Option (List ℕ) → Option (List ℕ) → Option (List ℕ) → Type 0
 EndsServing fault input output output' = (fault ≡ worker.Wire wire.Write) ⊎ Breaks fault input output output'
 
--- memory, nobody at the port, or another fault that serving may end with, whatever comes from there
+-- memory ran out, nobody answers at the port, or serving ended with another fault that it may end with, whatever comes from there
 abbrev pub RefusesWork : ℕ → CliFault → Type 0
 RefusesWork port OutOfMemory = Unit {0}
 RefusesWork port (Connect p) = p ≡ port

@@ -1,4 +1,4 @@
-//! Commands whose games are solved by programs.
+//! Commands whose games other programs solve.
 
 ghost use Rattle.std.specs.Prelude.{◌≡◌, ◌≢◌, ◌+◌, ◌<◌, ◌≤◌, ◌⊎◌, length, IfOk, IfSome, IfErr};
 ghost use Rattle.pg_cli_command.specs.Input.{StaysWithin};
@@ -13,10 +13,10 @@ use pg_coord::{Link, LinkFault, Reach, SocketLink, halt};
 use std::alloc::{AllocError, Global};
 use std::io::{Read, Write};
 
-/// The seconds that the programs of a command have in all, from where they are first started.
+/// The seconds that the programs of a command have in all, counted from when they are first started.
 const SECONDS: u64 = 60;
 
-/// Links to so many programs that are still to be started.
+/// Returns links to `count` programs that aren't started yet. Fails with `Listen` if it can't listen on any port, and with `OutOfMemory`.
 fn program_links<R: Reach>(
     rt: &R,
     alloc: Global,
@@ -40,7 +40,8 @@ fn program_links<R: Reach>(
     Ok(links)
 }
 
-/// Tells the programs that were started to end, and sees to it that each has ended. What these started in turn isn't known here.
+/// Tells the programs that were started to end, and makes sure that each has ended. It knows nothing about programs that these started in
+/// turn.
 fn end<R: Reach>(mut links: Vec<SocketLink<R>>) {
     let started = links.as_mut_slice();
     for place in 0..started.len() {
@@ -56,6 +57,7 @@ fn end<R: Reach>(mut links: Vec<SocketLink<R>>) {
 /// The programs that solve for a command, as many as it has workers. They are started when they are first needed.
 #[derive(Drop)]
 pub struct Programs<R: Reach> {
+    /// A link to each of the programs.
     pub links: Vec<SocketLink<R>>,
 }
 
@@ -63,9 +65,8 @@ impl<R: Reach> Programs<R> {
     ghost use Rattle.std.specs.Prelude.{◌≡◌, ◌<◌, ◌⊎◌, length, unwrap_or, IfOk, IfErr};
     ghost use Rattle.pg_cli_words.specs.Commands.{workers_of};
 
-    /// Listens for as many programs as the command has workers; each of them will be `path`. Fails with `Listen` if it
-    /// can't listen at any port of 127.0.0.1. If the command asks for no workers, or solves nothing, it needs no
-    /// program.
+    /// Listens for as many programs as the command has workers; each of them will be `path`. Fails with `Listen` if it can't listen on any
+    /// port of 127.0.0.1, and with `OutOfMemory`. If the command asks for no workers, or solves nothing, it needs no program.
     pub fn listen(
         rt: &R,
         alloc: Global,
@@ -80,8 +81,8 @@ impl<R: Reach> Programs<R> {
         Ok(Programs { links })
     }
 
-    /// Writes the answer to a text, as `run_apart` does after it has read its input, and ends the programs. It fails as
-    /// `write_answer` does, in the same order.
+    /// Writes the answer to a text of at most `MOST_BYTES` bytes, as `run_apart` does after it has read its input, and ends the programs.
+    /// It fails as `write_answer` does, in the same order.
     pub fn write_answer<W: Write>(
         mut self,
         alloc: Global,
@@ -103,9 +104,8 @@ impl<R: Reach> Programs<R> {
         answered
     }
 
-    /// Returns the answer to a text, from bytes to bytes, whatever the programs do, and ends them. It fails as
-    /// `write_answer` does, but never with `Write`. Without programs the answer and the fault are those of
-    /// `pg_cli::answer`.
+    /// Returns the answer to a text of at most `MOST_BYTES` bytes, whatever the programs do, and ends them. It fails as `write_answer`
+    /// does, but never with `Write`. Without programs the answer and the fault are those of `pg_cli::answer`.
     pub fn answer(self, alloc: Global, command: Command, text: Vec<u8>) -> Result<Vec<u8>, CliFault>
         requires { length text.items ≤ MOST_BYTES }
         ensures answer { IfOk result (λ output. PrintsBy IsClosedMapOf command text.items output.items) }
@@ -121,16 +121,15 @@ impl<R: Reach> Programs<R> {
     }
 }
 
-/// As `run`, but starts the program `path` as each worker: `path worker --port P`, which must call `work`. Each program
-/// that it started has ended when this returns; programs that those started in turn may still run.
+/// As `run`, but starts the program `path` as each worker: `path worker --port P`, which must call `work`. Each program that it started has
+/// ended when this returns; programs that those started in turn may still run.
 ///
-/// Whatever the programs do, and even if none can be started, the output comes from a closed map of the game and one of
-/// its dual, as for `run_with`. After a number of rounds that depends on the size of the game, 60 seconds after
-/// programs were first started, or when no program is left, the work goes on in this process.
+/// Whatever the programs do, and even if none can be started, the output comes from a closed map of the game and one of its dual, as for
+/// `run_with`. After a number of rounds that depends on the size of the game, 60 seconds after programs were first started, or when no
+/// program is left, the work goes on in this process.
 ///
-/// It fails as `run` does, in the same order, and before all else with `Listen` if it can't listen at any port of
-/// 127.0.0.1. If the command asks for no workers, or solves nothing, it needs no program, and the answer or fault is
-/// that of `run`.
+/// It fails as `run` does, in the same order, and before all else with `Listen` if it can't listen on any port of 127.0.0.1. If the command
+/// asks for no workers, or solves nothing, it needs no program, and the answer or fault is that of `run`.
 pub fn run_apart<S: Reach, R: Read, W: Write>(
     rt: &S,
     alloc: Global,
@@ -144,9 +143,9 @@ pub fn run_apart<S: Reach, R: Read, W: Write>(
         Answers IsClosedMapOf command input (W.contents writer.old) (W.contents writer.new) result) }
     ensures alone { HasNoWorkers command → IfSome (R.remaining reader.old) (λ input.
         Answers IsMeasureOf command input (W.contents writer.old) (W.contents writer.new) result) }
-    // Where no port can be listened at, nothing is read.
+    // If it can't listen on any port, it reads nothing.
     ensures listens_first { result ≡ Err CliFault.Listen → reader.new ≡ reader.old }
-    // Whatever comes of it, no byte behind the first one over the limit is read.
+    // In every case, no byte after the first one over the limit is read.
     ensures no_further { StaysWithin (R.remaining reader.old) (R.remaining reader.new) (MOST_BYTES + 1) }
     ensures untouched { IfErr result (λ fault. fault ≢ CliFault.Write → writer.new ≡ writer.old) }
 {

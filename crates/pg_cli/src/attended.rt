@@ -1,4 +1,4 @@
-//! What a worker program reads, for as long as there is somebody to answer.
+//! The input of a worker program, for as long as there is somebody to answer.
 
 use pg_coord::is_orphaned;
 use std::alloc::Global;
@@ -7,13 +7,13 @@ use std::io::{self, BufReader, Read};
 use std::net::OpenStream;
 use std::time::{Clock, Duration};
 
-/// How many bytes are read ahead.
+/// The most bytes that are read ahead.
 const ROOM: usize = 65_536;
 
-/// The seconds between two looks at the other end.
+/// The seconds between two checks of the other end.
 const LOOK: u64 = 1;
 
-/// The bytes of a connection to a port of 127.0.0.1. They end where nobody holds the other end any more, also ahead of bytes that
+/// The bytes of a connection to a port of 127.0.0.1. They end when nobody holds the other end any more, even before bytes that already
 /// came.
 #[derive(Drop)]
 pub(crate) struct Attended<'a, R, S: Read> {
@@ -21,12 +21,12 @@ pub(crate) struct Attended<'a, R, S: Read> {
     alloc: Global,
     input: BufReader<S>,
     port: u16,
-    /// When the other end was looked at last, by the monotonic clock.
+    /// When the other end was last checked, by the monotonic clock.
     looked: Duration,
 }
 
 impl<'a, R: Files + Clock, S: Read + OpenStream> Attended<'a, R, S> {
-    /// What comes over this connection to the port.
+    /// Returns a reader of the bytes that come over this connection to the port.
     pub fn new(rt: &'a R, alloc: Global, stream: S, port: u16) -> io::Result<Attended<'a, R, S>>
     where
         S: Drop,
@@ -40,7 +40,7 @@ impl<'a, R: Files + Clock, S: Read + OpenStream> Attended<'a, R, S> {
         })
     }
 
-    /// Whether nobody holds the other end any more, as far as the system tells.
+    /// Whether nobody holds the other end any more, as far as the system says.
     fn is_left(&self) -> bool {
         match self.input.get_ref().local_addr() {
             Ok(own) => is_orphaned(self.rt, self.alloc, self.port, own.port()).unwrap_or(false),
@@ -48,7 +48,7 @@ impl<'a, R: Files + Clock, S: Read + OpenStream> Attended<'a, R, S> {
         }
     }
 
-    /// Whether it is time for another look, which is then taken to be made.
+    /// Whether it is time for another check of the other end. If it is, counts the check as made.
     fn is_due(&mut self) -> bool {
         let now = self.rt.monotonic().unwrap_or(Duration::ZERO);
         if now.saturating_sub(self.looked) < Duration::from_secs(LOOK) {

@@ -1,4 +1,4 @@
-//! Games that are solved over links to workers.
+//! Solves games over links to workers.
 
 ghost use Rattle.std.specs.Prelude.{length, All, IfOk, IfSome};
 ghost use Rattle.pg_arena.specs.Games.{HasPrioritiesUpTo, dual};
@@ -19,42 +19,42 @@ use pg_solver::{Found, Maps};
 use pg_worker::Cut;
 use std::alloc::{AllocError, Global};
 
-/// How many lifts a worker makes in a round, at most.
+/// The most lifts that a worker makes in a round.
 const LIFTS: u32 = 4_096;
 
-/// A game of more vertices isn't shared out among workers in this process.
+/// The most vertices of a game that is shared among workers in this process.
 const MOST_VERTICES: usize = 256;
 
-/// How many rounds are made over workers in this process, and how many lifts one of them makes in each, at most.
+/// The most rounds that are made over workers in this process, and the most lifts that one of them makes in each.
 const FEW: Limit = Limit {
     rounds: 8,
     lifts: 256,
 };
 
-/// How many rounds are made over programs: for each game, and for each so many vertices.
+/// The number of rounds that are made over programs for every game; a game has one more for each `VERTICES_A_ROUND` vertices.
 const FIRST_ROUNDS: u64 = 32;
 
 const VERTICES_A_ROUND: u64 = 512;
 
-/// How many rounds are made until a game is solved in one piece, and how many lifts a worker makes in each, at most.
+/// The most rounds that are made before a game is solved in one piece, and the most lifts that a worker makes in each.
 #[derive(Clone, Copy)]
 struct Limit {
     rounds: u64,
     lifts: u32,
 }
 
-/// How many rounds are made over links until a game is solved in one piece.
+/// How many rounds are made over links before a game is solved in one piece.
 #[derive(Clone, Copy)]
 pub(crate) enum Rounds {
-    /// A few, and none for a large game: as suits workers in this process, which take turns.
+    /// A few, and none for a large game. This suits workers in this process, which take turns.
     Few,
-    /// More for a larger game: as suits programs, for which each round is dear.
+    /// More for a larger game. This suits programs, for which each round is expensive.
     BySize,
-    /// As over programs, but in `measure` as many as it takes.
+    /// As many as `BySize`, but in `measure` as many as it takes.
     Any,
 }
 
-/// Whether a worker keeps a map of the game, and one of its dual.
+/// Whether a worker can keep a map of the game, and a map of its dual.
 fn fit_workers(alloc: Global, game: &Game) -> Result<bool, AllocError> {
     let of_game = Bounds::of(alloc, game)?;
     let of_dual = Bounds::of_dual(alloc, game)?;
@@ -63,7 +63,7 @@ fn fit_workers(alloc: Global, game: &Game) -> Result<bool, AllocError> {
 }
 
 impl Rounds {
-    /// How many for a game, if it is shared out among so many links.
+    /// Returns the limits for a game that is shared among `links` links, or None if the game isn't shared.
     fn of(self, alloc: Global, game: &Game, links: usize) -> Result<Option<Limit>, AllocError> {
         match self {
             _ if links == 0 => Ok(None),
@@ -150,7 +150,7 @@ impl<L: Link> Solver for OverLinks<'_, L> {
     ghost closed = { λ _ game map found. found.closed };
 }
 
-/// The even cut of a game among so many links.
+/// Returns the even cut of a game among `links` links.
 fn cut_of(alloc: Global, game: &Game, links: usize) -> Result<Cut, AllocError>
     ensures { IfOk result (IsEvenCut (length game.now) links) }
 {
@@ -160,7 +160,7 @@ fn cut_of(alloc: Global, game: &Game, links: usize) -> Result<Cut, AllocError>
     Cut::even(alloc, game.len() as u32, workers)
 }
 
-/// A map of a game, by as many rounds as it takes.
+/// Finds a map of a game in as many rounds as it takes.
 fn measure_over<L: Link>(
     alloc: Global,
     game: &Game,
@@ -176,7 +176,7 @@ fn measure_over<L: Link>(
     }
 }
 
-/// A map of a game, by so many rounds at most; none where they are given up.
+/// Finds a map of a game in at most `limit.rounds` rounds. Returns None if the rounds are given up.
 fn measure_within<L: Link>(
     alloc: Global,
     game: &Game,
@@ -194,7 +194,7 @@ fn measure_within<L: Link>(
     }
 }
 
-/// A map of a game and one of its dual, by so many rounds for each at most; none where they are given up.
+/// Finds a map of a game and a map of its dual, each in at most `limit.rounds` rounds. Returns None if the rounds are given up.
 fn both_within<L: Link>(
     alloc: Global,
     game: &Game,

@@ -1,4 +1,4 @@
-//! A command from its input to its answer.
+//! Runs a command, from its input to its answer.
 
 ghost use Rattle.std.specs.Prelude.{◌≡◌, ◌≢◌, ◌+◌, ◌≤◌, ℕ, List, length, ◌⊎◌, All, IfOk, OnOk, IfSome, IsNone, IfErr};
 ghost use Rattle.std.specs.Io.KnownBytes.{Appends};
@@ -18,7 +18,7 @@ use pg_coord::{Link, MemoryLink};
 use std::alloc::{AllocError, Global};
 use std::io::{Read, Write};
 
-/// Links to so many workers in this process.
+/// Returns links to `count` workers in this process.
 fn memory_links(alloc: Global, count: u32) -> Result<Vec<MemoryLink>, AllocError>
     ensures { IfOk result (λ links. length links.items ≡ count) }
 {
@@ -55,7 +55,7 @@ pub fn run<R: Read, W: Write>(
     requires { HasFewWorkers command }
     ensures answer { IfSome (R.remaining reader.old) (λ input.
         Answers IsMeasureOf command input (W.contents writer.old) (W.contents writer.new) result) }
-    // Whatever comes of it, no byte behind the first one over the limit is read.
+    // In every case, no byte after the first one over the limit is read.
     ensures no_further { StaysWithin (R.remaining reader.old) (R.remaining reader.new) (MOST_BYTES + 1) }
     ensures untouched { IfErr result (λ fault. fault ≢ CliFault.Write → writer.new ≡ writer.old) }
 {
@@ -63,8 +63,8 @@ pub fn run<R: Read, W: Write>(
     write_answer(alloc, command, text, writer)
 }
 
-/// Writes the answer to a text, and nothing else, as `run` does after it has read its input. It fails as `run` does
-/// from `NoSeparator` on, in the same order, and never with `Read` or `InputTooLong`.
+/// Writes the answer to a text of at most `MOST_BYTES` bytes, and nothing else, as `run` does after it has read its input. It fails as
+/// `run` does from `NoSeparator` on, in the same order, and never with `Read` or `InputTooLong`.
 pub fn write_answer<W: Write>(
     alloc: Global,
     command: Command,
@@ -82,7 +82,7 @@ pub fn write_answer<W: Write>(
     answer_over(alloc, command, workers, Rounds::Few, text, writer)
 }
 
-/// Returns the answer to a text, from bytes to bytes. It fails as `write_answer` does, but never with `Write`.
+/// Returns the answer to a text of at most `MOST_BYTES` bytes. It fails as `write_answer` does, but never with `Write`.
 pub fn answer(alloc: Global, command: Command, text: Vec<u8>) -> Result<Vec<u8>, CliFault>
     requires few { HasFewWorkers command }
     requires limit { length text.items ≤ MOST_BYTES }
@@ -115,7 +115,7 @@ pub fn verify_texts(
     pg_cli_command::verify_texts(alloc, by_place, first, second, &mut InOnePiece)
 }
 
-/// Writes the answer to a text over the links that are given, by so many rounds.
+/// Writes the answer to a text, and solves games over these links in as many rounds as `rounds` says.
 pub(crate) fn answer_over<L: Link, W: Write>(
     alloc: Global,
     command: Command,
@@ -164,7 +164,7 @@ pub fn run_with<L: Link, R: Read, W: Write>(
         → OnOk result (IfSome (R.remaining reader.old) (λ input.
         (output : List ℕ) × IsMeasured (IsLeastOverTold L.told links.old) input output
         × Appends (W.contents writer.old) (W.contents writer.new) output)) }
-    // Whatever comes of it, no byte behind the first one over the limit is read.
+    // In every case, no byte after the first one over the limit is read.
     ensures no_further { StaysWithin (R.remaining reader.old) (R.remaining reader.new) (MOST_BYTES + 1) }
     ensures untouched { IfErr result (λ fault. fault ≢ CliFault.Write → writer.new ≡ writer.old) }
     ensures unused { IsNone (workers_of command) → links.new ≡ links.old }

@@ -16,14 +16,14 @@ use std::io::{self, Read, Write};
 use std::net::{Ipv4Addr, Net, OpenStream, TcpStream};
 use std::time::Clock;
 
-/// Both ends of a connection to a port of 127.0.0.1: that to read from, and that to write to. What is written goes at once.
+/// Connects to a port of 127.0.0.1, and returns the stream to read from and the stream to write to. Written bytes are sent at once.
 fn connect<R: Net>(rt: &R, port: u16) -> io::Result<(R::Stream, R::Stream)> {
     let output = TcpStream::connect(rt, (Ipv4Addr::LOCALHOST, port))?;
     output.set_nodelay(true)?;
     Ok((output.try_clone()?, output))
 }
 
-/// Serves as a worker between a reader and a writer, and tells what serving ended with as a fault of the program.
+/// Serves as a worker between a reader and a writer. If serving ends with a fault, returns it as a fault of the program.
 fn serve_between<R: Read, W: Write>(
     alloc: Global,
     input: &mut R,
@@ -38,11 +38,11 @@ fn serve_between<R: Read, W: Write>(
     Ok(())
 }
 
-/// Connects to a port of 127.0.0.1, and serves as a worker for the program that listens there, until Halt comes or the
-/// input ends. It also ends when nobody holds the other end of the connection any more, which it checks once a second
-/// while there are frames to read. It makes one write for each reply.
+/// Connects to a port of 127.0.0.1, and serves as a worker for the program that listens there, until Halt comes or the input ends. It also
+/// ends when nobody holds the other end of the connection any more, which it checks once a second while there are frames to read. It makes
+/// one write for each reply.
 ///
-/// Faults: `Connect` if nobody answers at the port; `Worker` with the fault that ended the serving; `OutOfMemory`.
+/// Fails with `Connect` if nobody answers at the port, with `Worker` and the fault that ended the serving, and with `OutOfMemory`.
 pub fn work<R: Net + Files + Clock>(rt: &R, alloc: Global, port: u16) -> Result<(), CliFault>
     ensures { IfErr result (RefusesWork port) }
 {

@@ -18,12 +18,12 @@ use Rattle.pg_cli_words.specs.declared.command.Command.TheVariants.{Measure, Sol
 use Rattle.pg_cli_command.specs.declared.fault.CliFault.{CliFault}
 use Rattle.pg_cli_command.specs.declared.fault.CliFault.TheVariants.{OutOfMemory, Read, Write, InputTooLong}
 
--- what a command prints for an input, and why it refuses the input for what it says
+-- what a command prints for an input, and why it refuses the input for its contents
 pub record Meaning : Type 1 where
   pub prints : List ℕ → Type 0
   pub refuses : CliFault → Type 0
 
--- a game is solved by maps of the kind
+-- the meaning of each command; games are solved by maps of this kind
 abbrev pub meaning_of : MapKind → Command → List ℕ → Meaning
 meaning_of Kind (Measure workers) input = record { prints = IsMeasured Kind input; refuses = RefusesMeasure input }
 meaning_of Kind (Solve workers) input = record { prints = IsSolved Kind input; refuses = RefusesSolve Kind input }
@@ -41,13 +41,12 @@ meaning_of Kind (Verify workers by_place environment) input = record {
   refuses = RefusesLook environment Kind (IsParted input) by_place;
 }
 
--- The command prints the output: the input keeps the limit, and the output is the answer to it.
+-- The command prints the output: the input is within the limit, and the output is the answer to it.
 pub record PrintsBy (Kind : MapKind) (command : Command) (input output : List ℕ) : Type 0 where
   pub limit : length input ≤ 268435456
   pub answer : (meaning_of Kind command input).prints output
 
--- Why a command prints no answer. The writer can only fail on an answer; of want of memory and of the reader nothing is
--- said.
+-- Why a command prints no answer. The writer can only fail on an answer. Nothing is said about running out of memory and about the reader.
 abbrev pub RefusesBy : MapKind → Command → List ℕ → CliFault → Type 0
 RefusesBy Kind command input OutOfMemory = Unit {0}
 RefusesBy Kind command input Read = Unit {0}
@@ -55,12 +54,12 @@ RefusesBy Kind command input InputTooLong = 268435456 < length input
 RefusesBy Kind command input Write = (output : List ℕ) × PrintsBy Kind command input output
 RefusesBy Kind command input fault = (length input ≤ 268435456) × (meaning_of Kind command input).refuses fault
 
--- What comes of an input: an answer, written behind what stood there, or a refusal.
+-- The result for an input: an answer, appended to the old output, or a refusal.
 abbrev pub Answers : MapKind → Command → List ℕ → Option (List ℕ) → Option (List ℕ) → Result (Unit {0}) CliFault → Type 0
 Answers Kind command input old new (Ok done) = (output : List ℕ) × PrintsBy Kind command input output × Appends old new output
 Answers Kind command input old new (Err fault) = RefusesBy Kind command input fault
 
--- by least progress measures
+-- what a command prints by least progress measures
 abbrev pub Prints : Command → List ℕ → List ℕ → Type 0
 Prints command input output = PrintsBy IsMeasureOf command input output
 

@@ -19,7 +19,7 @@ abbrev pub greatest : List ℕ → ℕ
 greatest [] = 0
 greatest (n ∷ ns) = max n (greatest ns)
 
--- `WINS`; `LEAVES` and an edge; `CYCLE`, the greatest priority of the cycle and the cycle; and a newline
+-- `WINS`; or `LEAVES` and an edge; or `CYCLE`, the greatest priority of the cycle, and the cycle; and then a newline
 abbrev pub verdict_text : List GameVertex → Verdict → List ℕ
 verdict_text game Wins = codes "WINS\n"
 verdict_text game (Leaves v w) =
@@ -28,8 +28,8 @@ verdict_text game (BadCycle cycle) =
     codes "CYCLE " ++ (decimal (greatest (map (priority game) cycle.items)) ++ (codes " "
     ++ (identifiers_text game cycle.items ++ codes "\n")))
 
--- Two texts, of a game and of a solution of the game, and a verdict on it: `Wins` exactly if the solution is sound, and
--- else what speaks against it.
+-- Two texts, one of a game and one of a solution of the game, and a verdict on the solution: `Wins` exactly if the solution is sound, and
+-- otherwise the evidence against it.
 pub record IsCheckedBy (Parts : Parting) (game : List GameVertex) (verdict : Verdict) : Type 0 where
   pub first : List ℕ
   pub second : List ℕ
@@ -47,7 +47,7 @@ pub record IsChecked (Parts : Parting) (output : List ℕ) : Type 0 where
   pub checked : IsCheckedBy Parts game verdict
   pub printed : output ≡ verdict_text game verdict
 
--- why there is no such output: there aren't two texts, or the first fails, or the second one
+-- why there is no such output: there aren't two texts, or the first text fails, or the second one does
 abbrev pub RefusesCheck : Parting → CliFault → Type 0
 RefusesCheck Parts NoSeparator = (first second : List ℕ) → ¬ Parts first second
 RefusesCheck Parts (Text fault) = FailsFirst Parts fault ⊎ FailsSecond Parts (λ text game. IsNoSolution text game fault)

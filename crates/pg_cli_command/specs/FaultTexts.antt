@@ -27,11 +27,11 @@ use Rattle.pg_cli_command.specs.declared.fault.CliFault.TheVariants.{Circuit, Ti
 use Rattle.pg_cli_command.specs.declared.fault.CliFault.TheVariants as cli
 use Rattle.pg_cli_command.specs.declared.fault.CliFault.TheVariants.{TooManyPropositions, Unshown, NoCounter}
 
--- the text for the event at this place
+-- the text of a fault of the event at this place
 abbrev pub at_event : ℕ → List ℕ → List ℕ
 at_event place why = codes "event " ++ (decimal place ++ (codes ": " ++ why))
 
--- why an event is refused; running out of memory has one text, and so has a cut that doesn't fit
+-- why an event is refused; the texts for running out of memory and for a cut that doesn't fit don't name the event
 abbrev pub event_text : ℕ → WorldFault → List ℕ
 event_text place world.OutOfMemory = codes "out of memory"
 event_text place (world.NoSuchReplica n) = at_event place (codes "no replica " ++ decimal n)
@@ -40,7 +40,7 @@ event_text place (world.NotMine worker id) =
 event_text place (world.NoSuchUpdate n) = at_event place (codes "update " ++ (decimal n ++ codes " was never made"))
 event_text place world.CutMismatch = codes "the cut does not fit the game"
 
--- what a worker's serving ended with, by its number where it isn't memory
+-- the fault that ended a worker's serving, by its number unless memory ran out
 abbrev pub worker_text : WorkerFault → List ℕ
 worker_text worker.OutOfMemory = codes "out of memory"
 worker_text worker.NotMine = codes "worker fault 2"
@@ -66,7 +66,7 @@ means_text means.OutOfMemory = codes "out of memory"
 means_text means.TooLarge = codes "automaton and formula too large together"
 means_text means.Undecided = codes "undecided"
 
--- why no automaton is found for a formula
+-- why no automaton was found for a formula
 abbrev pub untranslated_text : Untranslated → List ℕ
 untranslated_text untranslated.OutOfMemory = codes "out of memory"
 untranslated_text untranslated.TooManyStates = codes "automaton of the formula has too many states"

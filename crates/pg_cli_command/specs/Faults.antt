@@ -1,4 +1,4 @@
--- What becomes of the faults of lower layers, and the statuses.
+-- What the faults of lower layers become, and the exit statuses.
 use Rattle.std.specs.Prelude.{ℕ}
 use Rattle.pg_text.specs.declared.fault.TextFault.{TextFault}
 use Rattle.pg_text.specs.declared.fault.TextFault.TheVariants as text
@@ -38,18 +38,18 @@ use Rattle.pg_cli_command.specs.declared.fault.CliFault.TheVariants as cli
 use Rattle.pg_cli_command.specs.declared.solver.Untranslated.{Untranslated}
 use Rattle.pg_cli_command.specs.declared.solver.Untranslated.TheVariants as untranslated
 
--- running out of memory and the writer's failure are the program's own
+-- running out of memory and a failure of the writer become the program's own faults
 abbrev pub text_fault : TextFault → CliFault
 text_fault text.OutOfMemory = OutOfMemory
 text_fault text.Write = Write
 text_fault fault = Text fault
 
--- so is what the checker says
+-- the checker's faults become the program's own faults
 abbrev pub check_fault : CheckFault → CliFault
 check_fault check.OutOfMemory = OutOfMemory
 check_fault (check.Undecided id) = Undecided id
 
--- what the reader of scripts says, and what a world says of the event at this place
+-- the faults of the reader of scripts, and the faults of a world for the event at this place
 abbrev pub script_fault : ScriptFault → CliFault
 script_fault script.OutOfMemory = OutOfMemory
 script_fault fault = Script fault
@@ -58,7 +58,7 @@ abbrev pub event_fault : ℕ → WorldFault → CliFault
 event_fault place world.OutOfMemory = OutOfMemory
 event_fault place fault = World place fault
 
--- and what the reader of automata and the makers of games and of circuits say
+-- the faults of the reader of automata, and of the makers of games and of circuits
 abbrev pub hoa_fault : HoaFault → CliFault
 hoa_fault hoa.OutOfMemory = OutOfMemory
 hoa_fault fault = Hoa fault
@@ -72,7 +72,7 @@ aiger_fault aiger.OutOfMemory = OutOfMemory
 aiger_fault aiger.Write = Write
 aiger_fault fault = Aiger fault
 
--- and what the reader of circuits, the ties to an automaton, the look at gates and the product say
+-- the faults of the reader of circuits, of the ties to an automaton, of the look at gates, and of the product
 abbrev pub circuit_fault : ReaderFault → CliFault
 circuit_fault reader.OutOfMemory = OutOfMemory
 circuit_fault fault = Circuit fault
@@ -89,12 +89,12 @@ abbrev pub verify_fault : VerifyFault → CliFault
 verify_fault verify.OutOfMemory = OutOfMemory
 verify_fault fault = Verify fault
 
--- and what a worker's serving ends with
+-- the faults that a worker's serving ends with
 abbrev pub worker_fault : WorkerFault → CliFault
 worker_fault worker.OutOfMemory = OutOfMemory
 worker_fault fault = Worker fault
 
--- and what the reader of formulas, the look at a formula and the search for its automaton say
+-- the faults of the reader of formulas, of the look at a formula, and of the search for its automaton
 abbrev pub formula_fault : FormulaFault → CliFault
 formula_fault formula.OutOfMemory = OutOfMemory
 formula_fault fault = cli.Formula fault
@@ -113,7 +113,7 @@ abbrev pub untranslated_fault : Untranslated → CliFault
 untranslated_fault untranslated.OutOfMemory = OutOfMemory
 untranslated_fault fault = cli.Untranslated fault
 
--- Undecided has a status of its own
+-- `Undecided` has a status of its own
 abbrev pub status_of : CliFault → ℕ
 status_of (Undecided id) = 3
 status_of fault = 1

@@ -1,4 +1,4 @@
--- What the outputs of `means` and `automaton` say of endless words.
+-- What the outputs of `means` and `automaton` say about endless words.
 use Rattle.std.specs.Prelude.{◌≡◌, ◌⊎◌, ◌↔◌, ℕ, Bool, List, ◌++◌, length, take, drop, codes}
 use Rattle.pg_hoa_automaton.specs.Automata.{Automaton}
 use Rattle.pg_hoa_automaton.specs.Formulas as conditions
@@ -23,11 +23,12 @@ use Rattle.pg_cli_command.specs.Controllers.{AcceptsRun, controlled_word}
 abbrev pub same : List ℕ
 same = codes "SAME\n"
 
--- over words of all propositions the automaton accepts exactly those that satisfy the formula
+-- over words of all propositions, the automaton accepts exactly the words that satisfy the formula
 abbrev pub AreTheSame : Automaton → conditions.Formula → List (List ℕ) → Formula → Type 0
 AreTheSame a condition own f = let names = all_names a.propositions own in AreSame a condition (length names) (places_of names own) f
 
--- The output is `DIFFERS`, which of the two takes the word, and the lines of a lasso. The one takes it, and the other doesn't.
+-- The output is `DIFFERS`, a line that says which of the two accepts the word, and the lines of a lasso. That one accepts the word of the
+-- lasso, and the other doesn't.
 pub record ShowsApart (a : Automaton) (condition : conditions.Formula) (own : List (List ℕ)) (f : Formula) (output : List ℕ) : Type 0 where
   pub names : List (List ℕ)
   pub all : names ≡ all_names a.propositions own
@@ -38,8 +39,8 @@ pub record ShowsApart (a : Automaton) (condition : conditions.Formula) (own : Li
       ++ (codes "loop\n" ++ letter_lines names (drop back letters))))
   pub apart : AreApart a condition (length names) (places_of names own) f accepted letters back
 
--- The texts spell one automaton and one formula. The output is `SAME` exactly if the automaton accepts the words that satisfy the formula
--- and no others. Else it shows a word on which they differ.
+-- The texts spell exactly one automaton and one formula. The output is `SAME` exactly if the automaton accepts the words that satisfy the
+-- formula and no others. Otherwise it shows a word on which they differ.
 pub record Tells (first second output : List ℕ) : Type 0 where
   pub automaton : Automaton
   pub own : List (List ℕ)
@@ -50,7 +51,7 @@ pub record Tells (first second output : List ℕ) : Type 0 where
   pub is_same : (output ≡ same) ↔ AreTheSame automaton paired.spelt.says.condition own formula
   pub shows : (output ≡ same) ⊎ ShowsApart automaton paired.spelt.says.condition own formula output
 
--- so it is of each output of `means`, whether its texts stand in one input or each by itself
+-- this holds for each output of `means`, whether its texts are in one input or each by itself
 pub record MeansDecides : Type 0 where
   pub joined : (input output : List ℕ) → IsMeant (parts.IsParted input) output
       → (first : List ℕ) × (second : List ℕ) × parts.IsParted input first second × Tells first second output
@@ -58,24 +59,25 @@ pub record MeansDecides : Type 0 where
 
 -- ---- `automaton`, and then `synth`
 
--- `automaton` prints an automaton for the formula's text, and this is its text with outputs
+-- `automaton` prints an automaton for the formula's text, and `given` is the text of that automaton with outputs
 abbrev pub IsSpecified : List ℕ → List ℕ → Type 0
 IsSpecified formula given = (text : List ℕ) × (outs : List (List ℕ)) × IsTranslated formula text × HasOutputs text outs given
 
--- a word over all propositions, in which those of the automaton are as in a word over these
+-- `whole` is a word over all propositions that agrees with `word` on the propositions of the automaton
 pub record IsWordOf (a : Automaton) (own : List (List ℕ)) (word whole : ℕ → ℕ) : Type 0 where
   pub over : IsWordOver (length (all_names a.propositions own)) whole
   pub is : (t : ℕ) → own_word a whole t ≡ word t
 
--- the word satisfies the formula, whose propositions have these names, whatever those do that the automaton lacks
+-- the word satisfies the formula, whose propositions have these names, whatever the values of the propositions that the automaton lacks
 abbrev pub Satisfies : Automaton → List (List ℕ) → Formula → (ℕ → ℕ) → Type 0
 Satisfies a own f word = (whole : ℕ → ℕ) → IsWordOf a own word whole → IsSatisfied (places_of (all_names a.propositions own) own) f whole
 
--- the word doesn't, whatever those do
+-- the word doesn't satisfy the formula, whatever the values of the propositions that the automaton lacks
 abbrev pub Violates : Automaton → List (List ℕ) → Formula → (ℕ → ℕ) → Type 0
 Violates a own f word = (whole : ℕ → ℕ) → IsWordOf a own word whole → ¬ IsSatisfied (places_of (all_names a.propositions own) own) f whole
 
--- The bytes spell one circuit, which has exactly one run for the endless word of input letters. The word of this run satisfies the formula.
+-- The bytes spell exactly one circuit, which has exactly one run for the endless word of input letters. The word of this run satisfies the
+-- formula.
 pub record SatisfiesRun (formula given bytes : List ℕ) (letters : ℕ → ℕ) : Type 0 where
   pub run : AcceptsRun given bytes letters
   pub own : List (List ℕ)
@@ -83,13 +85,14 @@ pub record SatisfiesRun (formula given bytes : List ℕ) (letters : ℕ → ℕ)
   pub read : Spelt formula own f
   pub satisfies : (inputs : IsInputWord run.automaton letters) → Satisfies run.automaton own f (run.accepts inputs).word
 
--- So it is of each circuit that `synth` and `synth --small` print for the automaton of a formula.
+-- This holds for each circuit that `synth` and `synth --small` print for the automaton of a formula.
 abbrev pub ControllerSatisfies : (ℕ → ℕ) → Type 0
 ControllerSatisfies letters =
     (formula given output : List ℕ) → IsSpecified formula given → IsSmall given output ⊎ IsRealized IsClosedMapOf given output
     → (bytes : List ℕ) × (output ≡ realizable ++ bytes) × SatisfiesRun formula given bytes letters
 
--- Where `synth` prints that there is none, each controller has an input word of which it makes a word that doesn't satisfy the formula.
+-- If `synth` prints that there is no controller, then for each controller there is an input word from which it makes a word that doesn't
+-- satisfy the formula.
 abbrev pub NoneSatisfies : Type 0
 NoneSatisfies =
     (formula given output : List ℕ) → IsSpecified formula given → (answer : IsUnrealized IsClosedMapOf given output) (controller : List ℕ → ℕ)

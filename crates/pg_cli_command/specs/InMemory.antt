@@ -1,9 +1,9 @@
--- What comes of an answer that is written to memory.
+-- The result of writing an answer to memory.
 use Rattle.std.specs.Prelude.{Result, Ok, Err}
 use Rattle.pg_cli_command.specs.declared.fault.CliFault.{CliFault}
 use Rattle.pg_cli_command.specs.declared.fault.CliFault.TheVariants.{OutOfMemory, Write}
 
--- a write to memory fails only where memory runs out; any other fault stays
+-- a write to memory fails only if memory runs out; any other fault stays as it is
 abbrev pub memory_fault : CliFault → CliFault
 memory_fault Write = OutOfMemory
 memory_fault fault = fault

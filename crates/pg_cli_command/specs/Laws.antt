@@ -1,4 +1,4 @@
--- What the commands' answers say of endless plays.
+-- What the commands' answers say about endless plays.
 use Rattle.std.specs.Prelude.{◌≡◌, ℕ, ◌<◌, List, length}
 use Rattle.pg_arena.specs.Games.{GameVertex}
 use Rattle.pg_text.specs.declared.answer.Answer.{Answer}
@@ -27,23 +27,23 @@ pub record WinsAsPrinted (input output : List ℕ) : Type 0 where
   pub one_winner : (other : List Answer) → IsSolution game other → IsSound game other
       → (v : ℕ) → v < length game → winner other v ≡ winner solution v
 
--- so it is of each answer of `solve` by closed maps, whether or not they are the least
+-- this holds for each answer of `solve` by closed maps, whether or not they are the least
 abbrev pub PrintedWinnersWin : Type 0
 PrintedWinnersWin = (input output : List ℕ) → IsSolved IsClosedMapOf input output → WinsAsPrinted input output
 
--- and of each answer of `solve --any`
+-- this holds for each answer of `solve --any`
 abbrev pub AnyPrintedWinnersWin : Type 0
 AnyPrintedWinnersWin = (input output : List ℕ) → IsSolvedAnyhow input output → WinsAsPrinted input output
 
--- an answer by least progress measures is one by closed maps
+-- an answer by least progress measures is also an answer by closed maps
 abbrev pub LeastIsClosed : Type 0
 LeastIsClosed =
     (command : Command) (input output : List ℕ) → PrintsBy IsMeasureOf command input output
     → PrintsBy IsClosedMapOf command input output
 
--- By least progress measures the output is a function of the input: `measure` has one answer to an input, and so have `solve`,
--- `synth`, `replay` and `game`; where `solve` has one it isn't undecided, and where it is it names one vertex; where `replay` has
--- one no event is refused, and where one is it is at one place and for one fault; where `game` has one it isn't too large.
+-- By least progress measures the output is a function of the input: `measure`, `solve`, `synth`, `replay` and `game` each have at most one
+-- answer to an input. If `solve` has an answer, it isn't undecided; if it is undecided, it names one vertex. If `replay` has an answer, no
+-- event is refused; if an event is refused, its place and its fault are unique. If `game` has an answer, the game isn't too large.
 pub record OneAnswer : Type 0 where
   pub measured : (input first second : List ℕ) → IsMeasured IsMeasureOf input first → IsMeasured IsMeasureOf input second
       → first ≡ second

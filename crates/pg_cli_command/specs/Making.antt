@@ -30,7 +30,7 @@ pub record IsTooLarge (input : List ℕ) : Type 0 where
   pub made : IsGameFor input game
   pub over : ¬ IsWithinLimits game
 
--- the text spells no automaton, and the fault is one that the reader of automata gives for what it says
+-- the text spells no automaton, and the fault is one that the reader of automata gives for its contents
 abbrev pub IsNoAutomaton : List ℕ → HoaFault → Type 0
 IsNoAutomaton text hoa.OutOfMemory = ⊥
 IsNoAutomaton text fault = IsRefused text fault

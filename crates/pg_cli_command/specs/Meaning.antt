@@ -17,8 +17,8 @@ use Rattle.pg_cli_command.specs.declared.fault.CliFault.{CliFault}
 use Rattle.pg_cli_command.specs.declared.fault.CliFault.TheVariants as cli
 use Rattle.pg_cli_command.specs.declared.fault.CliFault.TheVariants.{NoSeparator, Hoa, TooManyPropositions, Means}
 
--- The first of two texts spells an automaton, the second a formula. The output is the text of a verdict that is right, with the names of
--- all their propositions.
+-- The first of two texts spells an automaton, the second a formula. The output is the text of a correct verdict, with the names of all
+-- their propositions.
 pub record IsMeant (Parts : Parting) (output : List ℕ) : Type 0 where
   pub first : List ℕ
   pub second : List ℕ
@@ -30,7 +30,7 @@ pub record IsMeant (Parts : Parting) (output : List ℕ) : Type 0 where
 
 -- ---- what is refused
 
--- the text spells no formula, and the fault is one that the reader of formulas gives for what it says
+-- the text spells no formula, and the fault is one that the reader of formulas gives for its contents
 abbrev pub IsNoFormula : List ℕ → FormulaFault → Type 0
 IsNoFormula text formula.OutOfMemory = ⊥
 IsNoFormula text fault = IsRefused text fault

@@ -12,7 +12,7 @@ use Rattle.pg_cli_command.specs.Texts.{IsNoGame}
 use Rattle.pg_cli_command.specs.declared.fault.CliFault.{CliFault}
 use Rattle.pg_cli_command.specs.declared.fault.CliFault.TheVariants.{Text}
 
--- `T` for top, `-` for the list without components, and else the components with commas
+-- `T` for top, `-` for the list without components, and otherwise the components separated by commas
 abbrev pub measure_text : MeasureValue → List ℕ
 measure_text None = 84 ∷ []
 measure_text (Some []) = 45 ∷ []
@@ -22,7 +22,7 @@ measure_text (Some (n ∷ ns)) = numbers_text (n ∷ ns)
 abbrev pub measure_line : ℕ → MeasureValue → List ℕ
 measure_line identifier m = decimal identifier ++ 32 ∷ (measure_text m ++ 59 ∷ 10 ∷ [])
 
--- a line for each vertex by rising identifier
+-- a line for each vertex, in rising order of identifiers
 abbrev pub measures_text : List GameVertex → List MeasureValue → List ℕ
 measures_text game f = flat_map (λ x. measure_line x.0.identifier x.1) (zip game f)
 
@@ -37,11 +37,11 @@ pub record IsMeasureOf (game : List GameVertex) (map : MapValue) : Type 0 where
   pub bounds : IsBoundsOf game map.bounds
   pub least : IsLeastProgressMeasure map.bounds (length game) (game_line game) map.measures
 
--- a kind of maps of a game: the least progress measure alone, or each closed map
+-- a kind of maps of a game: only the least progress measure, or every closed map
 abbrev pub MapKind : Type 1
 MapKind = List GameVertex → MapValue → Type 0
 
--- The input spells a game, and the output is the text of a map of it of the kind.
+-- The input spells a game, and the output is the text of a map of the game of this kind.
 pub record IsMeasured (Kind : MapKind) (input output : List ℕ) : Type 0 where
   pub game : List GameVertex
   pub spelt : IsGameText input game

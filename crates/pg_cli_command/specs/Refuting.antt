@@ -25,15 +25,15 @@ use Rattle.pg_cli_command.specs.declared.fault.CliFault.{CliFault}
 use Rattle.pg_cli_command.specs.declared.fault.CliFault.TheVariants as cli
 use Rattle.pg_cli_command.specs.declared.fault.CliFault.TheVariants.{NoSeparator, Hoa, Tie, Netlist, Verify, Hearing, Synth, Undecided}
 
--- `REFUTES`; or `FAILS`, lines, a line `loop`, and the lines that come round
+-- `REFUTES`; or `FAILS`, lines, a line `loop`, and the lines that repeat
 abbrev pub outcome_text : List ℕ → List ℕ → Outcome → List ℕ
 outcome_text given tied Refutes = codes "REFUTES\n"
 outcome_text given tied (Answered stem loop) =
     codes "FAILS\n" ++ (letter_lines given tied stem.items ++ (codes "loop\n" ++ letter_lines given tied loop.items))
 
 -- The first of two texts spells an automaton, the second a circuit that plays the environment: its inputs are the propositions that the
--- controller sets, its outputs the others. The same circuit, with both in the order of the automaton's propositions, is tied to the
--- automaton's counterpart, which has the propositions in the other hands.
+-- controller sets, its outputs the others. The same circuit, with its inputs and outputs in the order of the automaton's propositions, is
+-- tied to the automaton's counterpart, in which controller and environment swap their propositions.
 pub record AreOpposed (Parts : Parting) (by_place : Bool) (automaton : Automaton) (given tied : Circuit) : Type 0 where
   pub first : List ℕ
   pub second : List ℕ
@@ -45,7 +45,7 @@ pub record AreOpposed (Parts : Parting) (by_place : Bool) (automaton : Automaton
   pub counterpart : IsCounterpart automaton twin
   pub tied_by : IsTied by_place twin given symbols tied
 
--- No output depends on an input of the same step, and the output is the text of an outcome that is right.
+-- No output of the circuit depends on an input of the same step, and what is printed is the text of a correct outcome.
 pub record IsRefuted (Parts : Parting) (by_place : Bool) (output : List ℕ) : Type 0 where
   pub automaton : Automaton
   pub given : Circuit
@@ -59,16 +59,16 @@ pub record IsRefuted (Parts : Parting) (by_place : Bool) (output : List ℕ) : T
 
 -- ---- what is refused
 
--- the texts spell an automaton and a circuit with its propositions in the other hands, of which and the counterpart this is so
+-- the texts spell an automaton and a circuit that plays the environment, and P holds for the automaton's counterpart and the circuit
 abbrev pub IsOpposedPair : Parting → Bool → (Automaton → Circuit → Type 0) → Type 0
 IsOpposedPair Parts by_place P =
     (a : Automaton) × (given : Circuit) × (tied : Circuit) × (opposed : AreOpposed Parts by_place a given tied) × P opposed.twin tied
 
--- of the automaton that the first text spells there is a counterpart, and the second text fails beside it
+-- the automaton that the first text spells has a counterpart, and the second text fails for this counterpart
 abbrev pub FailsBeside : Parting → (Automaton → List ℕ → Type 0) → Type 0
 FailsBeside Parts Fails = FailsSecondText Parts (λ a second. (twin : Automaton) × IsCounterpart a twin × Fails twin second)
 
--- Why an input has no such output: as of `verify`, with the propositions in the other hands; or the automaton is too large to have a
+-- Why an input has no such output: for a reason of `verify`, with the propositions swapped; or the automaton is too large to have a
 -- counterpart; or an output depends on an input of the same step.
 abbrev pub RefusesRefute : MapKind → Parting → Bool → CliFault → Type 0
 RefusesRefute Kind Parts by_place NoSeparator = (first second : List ℕ) → ¬ Parts first second
@@ -87,7 +87,7 @@ RefusesRefute Kind Parts by_place _ = ⊥
 
 -- ---- for either player
 
--- what `verify` prints: of a circuit that plays the environment, or of a controller
+-- what `verify` prints for a circuit that plays the environment, or for a controller
 abbrev pub IsLookedAt : Bool → Parting → Bool → List ℕ → Type 0
 IsLookedAt true Parts by_place = IsRefuted Parts by_place
 IsLookedAt false Parts by_place = IsVerified Parts by_place

@@ -25,7 +25,7 @@ use Rattle.pg_cli_command.specs.declared.fault.CliFault.TheVariants.{Text, NoSep
 abbrev pub update_line : List GameVertex → ℕ → UpdateValue → List ℕ
 update_line game n u = codes "update " ++ (decimal n ++ 32 ∷ measure_line (identifier game u.vertex) u.measure)
 
--- the numbers of updates with commas, or `-` where there is none
+-- the numbers of updates, separated by commas, or `-` if there are none
 abbrev pub taken_text : List ℕ → List ℕ
 taken_text [] = 45 ∷ []
 taken_text (n ∷ ns) = numbers_text (n ∷ ns)
@@ -46,8 +46,8 @@ pub record AreMapsOf (w : WorldValue) (maps : List (List MeasureValue)) : Type 0
   pub count : length maps ≡ 1 + w.cut.workers
   pub each : (r : ℕ) → r ≤ w.cut.workers → IsMapOf w r (slice_index_or maps r [])
 
--- Two texts, of a game and of a script for the game: the events of the script, and the world of the game and of the
--- script's cut in which nothing has been made yet.
+-- Two texts, one of a game and one of a script for the game: the events of the script, and the world of the game and of the script's cut in
+-- which nothing has happened yet.
 pub record IsScripted (Parts : Parting) (start : WorldValue) (events : List Event) : Type 0 where
   pub first : List ℕ
   pub second : List ℕ
@@ -72,7 +72,7 @@ pub record IsReplayed (Parts : Parting) (output : List ℕ) : Type 0 where
   pub are : AreMapsOf after maps
   pub printed : output ≡ world_text after maps
 
--- The event at this place is the first that is refused, for the reason against it.
+-- The event at this place is the first that is refused, and the fault is the reason.
 pub record IsStopped (Parts : Parting) (place : ℕ) (fault : WorldFault) : Type 0 where
   pub start : WorldValue
   pub events : List Event
@@ -86,7 +86,7 @@ abbrev pub IsNoScript : List ℕ → List GameVertex → ScriptFault → Type 0
 IsNoScript text game script_fault.OutOfMemory = ⊥
 IsNoScript text game fault = (cut : CutValue) (events : List Event) → ¬ IsScriptText text game cut events
 
--- why there is no such output: there aren't two texts, or the first fails, or the second one, or an event is refused
+-- why there is no such output: there aren't two texts, or the first text fails, or the second one does, or an event is refused
 abbrev pub RefusesReplay : Parting → CliFault → Type 0
 RefusesReplay Parts NoSeparator = (first second : List ℕ) → ¬ Parts first second
 RefusesReplay Parts (Text fault) = FailsFirst Parts fault

@@ -1,4 +1,4 @@
--- What `synth --small` prints, and what that says of endless words.
+-- What `synth --small` prints, and what that says about endless words.
 use Rattle.std.specs.Prelude.{◌≡◌, ◌⊎◌, ℕ, ◌≤◌, List, ◌++◌, length}
 use Rattle.pg_hoa_automaton.specs.Automata.{Automaton, IsAutomaton}
 use Rattle.pg_hoa.specs.AutomatonText.{Spelt}
@@ -10,14 +10,15 @@ use Rattle.pg_cli_command.specs.Measuring.{MapKind, IsClosedMapOf}
 use Rattle.pg_cli_command.specs.Synthesising.{realizable, IsSynthesised, IsRealized}
 use Rattle.pg_cli_command.specs.Controllers.{AcceptsRun}
 
--- the circuit is in its order and within the limit, and has the propositions of the automaton
+-- the circuit's variables are numbered in order and within the limit, and the circuit has the propositions of the automaton
 pub record IsShaped (a : Automaton) (circuit : Circuit) : Type 0 where
   pub numbered : IsNumbered circuit
   pub within : circuit.greatest ≤ 1073741823
   pub inputs : length circuit.inputs ≡ inputs a.controllable
   pub outputs : length circuit.outputs ≡ outputs a.controllable
 
--- The input spells an automaton that accepts each run of a circuit. The output says that there is one, and is its text.
+-- The input spells an automaton that accepts each run of a circuit. The output says that there is a controller, and then has the text of
+-- the circuit.
 pub record IsSmall (input output : List ℕ) : Type 0 where
   pub automaton : Automaton
   pub spelt : Spelt input automaton
@@ -27,11 +28,12 @@ pub record IsSmall (input output : List ℕ) : Type 0 where
   pub correct : IsCorrect automaton spelt.says.condition circuit
   pub printed : output ≡ realizable ++ circuit_text circuit automaton
 
--- that, or what `synth` prints
+-- such an output, or what `synth` prints
 abbrev pub IsSynthesisedSmall : MapKind → List ℕ → List ℕ → Type 0
 IsSynthesisedSmall Kind input output = IsSmall input output ⊎ IsSynthesised Kind input output
 
--- Whichever circuit stands behind the first line: it has one run for the endless word of input letters, and it is accepted.
+-- Whichever circuit comes after the first line, it has exactly one run for the endless word of input letters, and the automaton accepts the
+-- word of that run.
 abbrev pub SmallAccepted : (ℕ → ℕ) → Type 0
 SmallAccepted letters = (input output : List ℕ) → IsSmall input output ⊎ IsRealized IsClosedMapOf input output
     → (bytes : List ℕ) × (output ≡ realizable ++ bytes) × AcceptsRun input bytes letters

@@ -1,4 +1,4 @@
--- What `solve` prints, and what `solve --any` does.
+-- What `solve` and `solve --any` print.
 use Rattle.std.specs.Prelude.{◌≡◌, ℕ, ◌<◌, ◌^◌, List, All}
 use Rattle.pg_arena.specs.Games.{GameVertex, dual}
 use Rattle.pg_map.specs.Maps.{MapValue}
@@ -12,7 +12,7 @@ use Rattle.pg_cli_command.specs.Measuring.{MapKind}
 use Rattle.pg_cli_command.specs.declared.fault.CliFault.{CliFault}
 use Rattle.pg_cli_command.specs.declared.fault.CliFault.TheVariants.{Text, Undecided}
 
--- the solution of a map of the game and of one of its dual, both of the kind
+-- the solution that a map of the game and a map of its dual give, both of this kind
 pub record IsSolvedBy (Kind : MapKind) (game : List GameVertex) (solution : List Answer) : Type 0 where
   pub even : MapValue
   pub odd : MapValue
@@ -20,7 +20,7 @@ pub record IsSolvedBy (Kind : MapKind) (game : List GameVertex) (solution : List
   pub odd_found : Kind (dual game) odd
   pub solution_of : IsSolutionOf game even odd solution
 
--- The input spells a game, whose identifiers are numbers of 32 bits, and the output is the text of such a solution of it.
+-- The input spells a game whose identifiers are 32-bit numbers, and the output is the text of such a solution of the game.
 pub record Solves (Solution : List GameVertex → List Answer → Type 0) (input output : List ℕ) : Type 0 where
   pub game : List GameVertex
   pub spelt : IsGameText input game
@@ -32,11 +32,11 @@ pub record Solves (Solution : List GameVertex → List Answer → Type 0) (input
 abbrev pub IsSolved : MapKind → List ℕ → List ℕ → Type 0
 IsSolved Kind input output = Solves (IsSolvedBy Kind) input output
 
--- by a sound solution, whichever that is
+-- the output is the text of a sound solution, whichever that is
 abbrev pub IsSolvedAnyhow : List ℕ → List ℕ → Type 0
 IsSolvedAnyhow input output = Solves IsSoundSolution input output
 
--- The vertex with this identifier is the least at which a map of the game and one of its dual, both of the kind, are both top.
+-- The vertex with this identifier is the least at which a map of the game and a map of its dual, both of this kind, are both top.
 pub record IsUndecidedIn (Kind : MapKind) (game : List GameVertex) (id : ℕ) : Type 0 where
   pub even : MapValue
   pub odd : MapValue

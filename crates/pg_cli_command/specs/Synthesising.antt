@@ -20,8 +20,8 @@ use Rattle.pg_cli_command.specs.Making.{IsGameFor, IsNoAutomaton}
 use Rattle.pg_cli_command.specs.declared.fault.CliFault.{CliFault}
 use Rattle.pg_cli_command.specs.declared.fault.CliFault.TheVariants.{Hoa, Synth, Aiger, Undecided}
 
--- The input spells an automaton, whose game is within the limits. By the solution of a map of this game and
--- of one of its dual, both of the kind, which is sound, the player wins where the game begins.
+-- The input spells an automaton whose game is within the limits. A map of this game and a map of its dual, both of this kind, give a sound
+-- solution, by which the player wins where the game begins.
 pub record IsWonFor (Kind : MapKind) (input : List ℕ) (player : Player) : Type 0 where
   pub automaton : Automaton
   pub spelt : Spelt input automaton
@@ -41,14 +41,14 @@ pub record IsRealizedBy (Kind : MapKind) (input : List ℕ) (circuit : Circuit) 
   pub within : ¬ IsTooLarge machine
   pub circuit_of : IsCircuitOf machine circuit
 
--- the line ahead of the circuit
+-- the line before the circuit
 abbrev pub realizable : List ℕ
 realizable = codes "REALIZABLE\n"
 
 abbrev pub unrealizable : List ℕ
 unrealizable = codes "UNREALIZABLE\n"
 
--- The output is that line, and the text of the circuit.
+-- The output is that line, followed by the text of the circuit.
 pub record IsRealized (Kind : MapKind) (input output : List ℕ) : Type 0 where
   pub circuit : Circuit
   pub realized : IsRealizedBy Kind input circuit
@@ -62,8 +62,8 @@ pub record IsUnrealized (Kind : MapKind) (input output : List ℕ) : Type 0 wher
 abbrev pub IsSynthesised : MapKind → List ℕ → List ℕ → Type 0
 IsSynthesised Kind input output = IsRealized Kind input output ⊎ IsUnrealized Kind input output
 
--- The input spells an automaton, whose game is within the limits. The vertex with this identifier is the least at which a
--- map of this game and one of its dual, both of the kind, are both top.
+-- The input spells an automaton whose game is within the limits. The vertex with this identifier is the least at which a map of this game
+-- and a map of its dual, both of this kind, are both top.
 pub record IsUndecidedFor (Kind : MapKind) (input : List ℕ) (id : ℕ) : Type 0 where
   pub game : List GameVertex
   pub made : IsGameFor input game

@@ -6,15 +6,15 @@ use Rattle.pg_text.specs.SolutionText.{SpellsNoSolution, RefusesSolution}
 use Rattle.pg_text.specs.declared.fault.TextFault.{TextFault}
 use Rattle.pg_cli_command.specs.Parts.{Parting}
 
--- the text spells no game, and the fault is one that the reader of games gives for what it says
+-- the text spells no game, and the fault is one that the reader of games gives for its contents
 abbrev pub IsNoGame : List ℕ → TextFault → Type 0
 IsNoGame text fault = SpellsNoGame text × Refuses text fault
 
--- the text spells no solution of the game, and the fault is one that the reader of its solutions gives for what it says
+-- the text spells no solution of the game, and the fault is one that the reader of its solutions gives for its contents
 abbrev pub IsNoSolution : List ℕ → List GameVertex → TextFault → Type 0
 IsNoSolution text game fault = SpellsNoSolution text game × RefusesSolution text game fault
 
--- of two texts the first spells no game
+-- the first of two texts spells no game
 pub record FailsFirst (Parts : Parting) (fault : TextFault) : Type 0 where
   pub first : List ℕ
   pub second : List ℕ

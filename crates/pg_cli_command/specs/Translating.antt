@@ -11,8 +11,8 @@ use Rattle.pg_cli_command.specs.declared.fault.CliFault.{CliFault}
 use Rattle.pg_cli_command.specs.declared.fault.CliFault.TheVariants as cli
 use Rattle.pg_cli_command.specs.declared.fault.CliFault.TheVariants.{Means, Untranslated, Unshown}
 
--- The input spells a formula, and the output an automaton. Over words of all their propositions the automaton accepts exactly those that
--- satisfy the formula.
+-- The input spells a formula, and the output an automaton. Over words of all their propositions, the automaton accepts exactly the words
+-- that satisfy the formula.
 abbrev pub IsTranslated : List ℕ → List ℕ → Type 0
 IsTranslated input output = (names : List (List ℕ)) × IsCompared output input names Same
 
@@ -20,7 +20,7 @@ IsTranslated input output = (names : List (List ℕ)) × IsCompared output input
 abbrev pub IsFormula : List ℕ → Type 0
 IsFormula input = (names : List (List ℕ)) × (f : Formula) × Spelt input names f
 
--- Why an input has no such output: it spells no formula; or it does, and no automaton is found within the limits, or none that is shown to
+-- Why an input has no such output: it spells no formula; or it does, and no automaton was found within the limits, or none that is shown to
 -- be right.
 abbrev pub RefusesAutomaton : List ℕ → CliFault → Type 0
 RefusesAutomaton input (cli.Formula fault) = IsNoFormula input fault

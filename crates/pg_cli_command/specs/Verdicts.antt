@@ -1,4 +1,4 @@
--- What the output of `verify` says of a circuit and its runs.
+-- What the output of `verify` says about a circuit and its runs.
 use Rattle.std.specs.Prelude.{◌≡◌, ◌⊎◌, ◌↔◌, ℕ, Bool, List, ◌++◌, codes}
 use Rattle.pg_hoa_automaton.specs.Automata.{Automaton}
 use Rattle.pg_hoa_automaton.specs.Formulas.{Formula}
@@ -10,8 +10,8 @@ use Rattle.pg_cli_command.specs.Verifying.{letter_lines, ArePaired, IsVerified}
 abbrev pub accepted : List ℕ
 accepted = codes "ACCEPTED\n"
 
--- The output is `STUCK` and a line for each of these input letters: whatever follows them, the automaton has no edge for the last
--- letter that the circuit makes of them.
+-- The output is `STUCK` and a line for each of these input letters: whatever follows them, the automaton has no edge for the last letter
+-- that the circuit makes from them.
 pub record ShowsStuck (a : Automaton) (given tied : Circuit) (output : List ℕ) : Type 0 where
   pub letters : List ℕ
   pub printed : output ≡ codes "STUCK\n" ++ letter_lines given.inputs tied.inputs letters
@@ -25,8 +25,8 @@ pub record ShowsRejected (a : Automaton) (condition : Formula) (given tied : Cir
       ++ (codes "loop\n" ++ letter_lines given.inputs tied.inputs loop))
   pub rejected : IsRejected a condition tied stem loop
 
--- The texts spell one automaton and one circuit, whose inputs and outputs stand for its propositions. The output is `ACCEPTED`
--- exactly if the automaton accepts each run of the circuit. Else it shows a run that the automaton doesn't accept.
+-- The texts spell exactly one automaton and one circuit, whose inputs and outputs stand for the automaton's propositions. The output is
+-- `ACCEPTED` exactly if the automaton accepts each run of the circuit. Otherwise it shows a run that the automaton doesn't accept.
 pub record Decides (by_place : Bool) (first second output : List ℕ) : Type 0 where
   pub automaton : Automaton
   pub given : Circuit
@@ -38,7 +38,7 @@ pub record Decides (by_place : Bool) (first second output : List ℕ) : Type 0 w
   pub shows : (output ≡ accepted)
       ⊎ (ShowsStuck automaton given tied output ⊎ ShowsRejected automaton paired.spelt.says.condition given tied output)
 
--- so it is of each output of `verify`, whether its texts stand in one input or each by itself
+-- this holds for each output of `verify`, whether its texts are in one input or each by itself
 pub record VerifyDecides : Type 0 where
   pub joined : (by_place : Bool) (input output : List ℕ) → IsVerified (IsParted input) by_place output
       → (first : List ℕ) × (second : List ℕ) × IsParted input first second × Decides by_place first second output

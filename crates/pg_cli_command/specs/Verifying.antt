@@ -27,7 +27,7 @@ use Rattle.pg_cli_command.specs.declared.fault.CliFault.{CliFault}
 use Rattle.pg_cli_command.specs.declared.fault.CliFault.TheVariants as cli
 use Rattle.pg_cli_command.specs.declared.fault.CliFault.TheVariants.{NoSeparator, Hoa, Tie, Netlist, Verify, Synth, Undecided}
 
--- The bit of an input letter that an input has, by its literal. The inputs of the list stand in the order of the letter's bits.
+-- The bit of an input letter for the input with this literal. The list has the inputs in the order of the letter's bits.
 abbrev pub bit_of : List ℕ → ℕ → ℕ → ℕ
 bit_of [] letter literal = 0
 bit_of (input ∷ inputs) letter literal = if input == literal then letter % 2 else bit_of inputs (letter / 2) literal
@@ -42,15 +42,15 @@ letter_line given tied letter = flat_map (λ literal. bit_text (bit_of tied lett
 abbrev pub letter_lines : List ℕ → List ℕ → List ℕ → List ℕ
 letter_lines given tied letters = flat_map (letter_line given tied) letters
 
--- `ACCEPTED`; `STUCK` and a line for each step; or `REJECTED`, lines, a line `loop`, and the lines that come round
+-- `ACCEPTED`; or `STUCK` and a line for each step; or `REJECTED`, lines, a line `loop`, and the lines that repeat
 abbrev pub verdict_text : List ℕ → List ℕ → Verdict → List ℕ
 verdict_text given tied Accepted = codes "ACCEPTED\n"
 verdict_text given tied (Stuck letters) = codes "STUCK\n" ++ letter_lines given tied letters.items
 verdict_text given tied (Rejected stem loop) =
     codes "REJECTED\n" ++ (letter_lines given tied stem.items ++ (codes "loop\n" ++ letter_lines given tied loop.items))
 
--- The first of two texts spells an automaton, the second a circuit. The same circuit, with its inputs and outputs in the order of the
--- automaton's propositions:
+-- The first of two texts spells an automaton, the second a circuit. `tied` is the same circuit, with its inputs and outputs in the order of
+-- the automaton's propositions.
 pub record ArePaired (Parts : Parting) (by_place : Bool) (automaton : Automaton) (given tied : Circuit) : Type 0 where
   pub first : List ℕ
   pub second : List ℕ
@@ -60,7 +60,7 @@ pub record ArePaired (Parts : Parting) (by_place : Bool) (automaton : Automaton)
   pub read : IsRead second given symbols
   pub tied_by : IsTied by_place automaton given symbols tied
 
--- Not too many states are reached, and the output is the text of a verdict that is right.
+-- The circuit and the automaton don't reach too many states, and the output is the text of a correct verdict.
 pub record IsVerified (Parts : Parting) (by_place : Bool) (output : List ℕ) : Type 0 where
   pub automaton : Automaton
   pub given : Circuit
@@ -74,7 +74,7 @@ pub record IsVerified (Parts : Parting) (by_place : Bool) (output : List ℕ) : 
 
 -- ---- what is refused
 
--- of two texts the first fails
+-- the first of two texts fails
 abbrev pub FailsFirstText : Parting → (List ℕ → Type 0) → Type 0
 FailsFirstText Parts Fails = (first : List ℕ) × (second : List ℕ) × Parts first second × Fails first
 
@@ -87,11 +87,11 @@ FailsSecondText Parts Fails =
 abbrev pub IsUntied : Bool → TieFault → Automaton → List ℕ → Type 0
 IsUntied by_place fault a second = (given : Circuit) × (symbols : List Symbol) × IsRead second given symbols × IsTieFault by_place a given symbols fault
 
--- the texts spell an automaton and a circuit with its propositions, of which this is so
+-- the texts spell an automaton and a circuit with its propositions, and P holds for them
 abbrev pub IsPair : Parting → Bool → (Automaton → Circuit → Type 0) → Type 0
 IsPair Parts by_place P = (a : Automaton) × (given : Circuit) × (tied : Circuit) × ArePaired Parts by_place a given tied × P a tied
 
--- The vertex of the game of their product with this identifier is the least at which a map of this game and one of its dual, both of the
+-- The vertex with this identifier in the game of their product is the least at which a map of this game and a map of its dual, both of this
 -- kind, are both top.
 pub record IsUndecidedOn (Kind : MapKind) (a : Automaton) (circuit : Circuit) (id : ℕ) : Type 0 where
   pub product : Automaton
@@ -101,8 +101,9 @@ pub record IsUndecidedOn (Kind : MapKind) (a : Automaton) (circuit : Circuit) (i
   pub limits : IsWithinLimits game
   pub undecided : IsUndecidedIn Kind game id
 
--- Why an input has no such output: there aren't two texts; the first spells no automaton, or the second no circuit; the circuit has not the
--- automaton's propositions, or contradicts itself; or it is too large beside the automaton, or both maps are top at some vertex of their game.
+-- Why an input has no such output: there aren't two texts; the first spells no automaton, or the second no circuit; the circuit doesn't
+-- have the automaton's propositions, or contradicts itself; it is too large together with the automaton; or both maps are top at some
+-- vertex of their game.
 abbrev pub RefusesVerify : MapKind → Parting → Bool → CliFault → Type 0
 RefusesVerify Kind Parts by_place NoSeparator = (first second : List ℕ) → ¬ Parts first second
 RefusesVerify Kind Parts by_place (Hoa fault) = FailsFirstText Parts (λ first. IsNoAutomaton first fault)

@@ -1,4 +1,4 @@
--- What the commands' answers by least progress measures say of who wins.
+-- What the commands' answers by least progress measures say about who wins.
 use Rattle.std.specs.Prelude.{ℕ, List}
 use Rattle.pg_arena.specs.Games.{GameVertex}
 use Rattle.pg_text.specs.GameText.{IsGameText}

@@ -13,7 +13,7 @@ use pg_means_texts::{MeansFault, Verdict, compare};
 use std::alloc::Global;
 use std::io::Write;
 
-/// The text of an automaton that accepts exactly the words of a formula.
+/// The text of an automaton that accepts exactly the words that satisfy a formula.
 #[derive(Drop)]
 pub(crate) struct Translated {
     automaton: Vec<u8>,
@@ -29,7 +29,7 @@ impl Answer for Translated {
     }
 }
 
-/// Whether the automaton that the first text spells is shown to accept exactly the words of the formula that the second text spells.
+/// Whether the automaton that the first text spells is shown to accept exactly the words that satisfy the formula of the second text.
 fn is_shown(alloc: Global, automaton: &[u8], formula: &[u8]) -> Result<bool, CliFault>
     ensures shown { IfOk result (λ yes. yes ≡ true → IsTranslated formula.now automaton.now) }
     ensures refused { IfErr result (λ fault. (fault ≡ CliFault.OutOfMemory) ⊎ (fault ≡ CliFault.Means means.TooLarge)) }
@@ -44,7 +44,9 @@ fn is_shown(alloc: Global, automaton: &[u8], formula: &[u8]) -> Result<bool, Cli
     }
 }
 
-/// An automaton that accepts exactly the words of the formula that a text spells: one that the solver proposes, if it is shown to be so.
+/// Returns an automaton that accepts exactly the words that satisfy the formula that a text spells. The solver proposes it, and it is
+/// returned only if it is shown to be right. If it isn't, this fails with `Unshown`, or with `Means` if automaton and formula are too large
+/// together.
 pub(crate) fn automaton<F: Solver>(
     alloc: Global,
     text: Vec<u8>,

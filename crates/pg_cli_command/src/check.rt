@@ -18,7 +18,7 @@ use pg_text::{read_game, read_solution};
 use std::alloc::Global;
 use std::io::{self, Write};
 
-/// The greatest priority of these vertices.
+/// Returns the greatest priority of these vertices, or 0 if there are none.
 fn greatest_priority(game: &Game, vertices: &[Vertex]) -> u32
     requires { All (λ v. v < length game.now) vertices.now }
     ensures { result ≡ greatest (map (priority game.now) vertices.now) }
@@ -30,8 +30,8 @@ fn greatest_priority(game: &Game, vertices: &[Vertex]) -> u32
     most
 }
 
-/// Writes a verdict and a newline: `WINS`; `LEAVES` and the identifiers of the edge; `CYCLE`, the greatest priority of
-/// the cycle, and its identifiers with commas.
+/// Writes a verdict and a newline: `WINS`; or `LEAVES` and the identifiers of the edge; or `CYCLE`, the greatest priority of the cycle, and
+/// its identifiers separated by commas.
 fn write_verdict<W: Write>(writer: &mut W, game: &Game, verdict: &Verdict) -> io::Result<()>
     requires { IsWithin game.now verdict.now }
     ensures { OnOk result
@@ -56,7 +56,7 @@ fn write_verdict<W: Write>(writer: &mut W, game: &Game, verdict: &Verdict) -> io
     }
 }
 
-/// A game, and what the checker says of a solution of it.
+/// A game, and the checker's verdict on a solution of it.
 #[derive(Drop)]
 pub(crate) struct Checked {
     game: Game,
@@ -73,7 +73,7 @@ impl Answer for Checked {
     }
 }
 
-/// What the checker says of the solution that the second text spells, of the game of the first.
+/// Returns the checker's verdict on the solution that the second text spells, for the game of the first text.
 pub(crate) fn check(alloc: Global, texts: Texts) -> Result<Checked, CliFault>
     ensures whole { IfOk result ⟦<Checked as Answer>⟧.is_whole }
     ensures answer { IfOk result (ShowsWhat (IsChecked (parting_of texts)) ⟦<Checked as Answer>⟧.shows) }

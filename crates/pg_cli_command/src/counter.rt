@@ -24,7 +24,8 @@ use pg_verify_environment::{Outcome, counterpart, outcome_of};
 use std::alloc::Global;
 use std::io::Write;
 
-/// A circuit that plays the controller, or else one that plays the environment, and the automaton whose propositions it has.
+/// A circuit that plays the controller if `is_realized` is set, and otherwise the environment, and the automaton whose propositions the
+/// circuit has.
 #[derive(Drop)]
 pub(crate) struct Countered {
     pub is_realized: bool,
@@ -32,7 +33,7 @@ pub(crate) struct Countered {
     pub circuit: Circuit,
 }
 
-/// Writes whether there is a controller, and a circuit.
+/// Writes whether there is a controller, and then the circuit.
 fn write_countered<W: Write>(
     is_realized: bool,
     circuit: &Circuit,
@@ -65,7 +66,7 @@ impl Answer for Countered {
     }
 }
 
-/// The circuit that is proposed, if it has the propositions of the automaton.
+/// Returns the proposed circuit, if it is one and has the propositions of the automaton.
 fn circuit_for(automaton: &Automaton, proposal: Proposal) -> Option<Circuit>
     requires { IsAutomaton automaton.now }
     ensures { IfSome result (IsShaped automaton.now) }
@@ -84,8 +85,8 @@ fn circuit_for(automaton: &Automaton, proposal: Proposal) -> Option<Circuit>
     Some(circuit)
 }
 
-/// Whether no output of the circuit depends on an input of the same step, and the automaton accepts none of its runs; not if that can't be
-/// found out.
+/// Whether no output of the circuit depends on an input of the same step and the automaton accepts none of the circuit's runs. Returns
+/// false if that can't be determined. Fails only if memory runs out.
 fn refutes<F: Solver>(
     alloc: Global,
     automaton: &Automaton,
@@ -104,7 +105,7 @@ fn refutes<F: Solver>(
         Err(NetlistFault::OutOfMemory) => return Err(CliFault::OutOfMemory),
         Err(_) => return Ok(false),
     };
-    // asked for what its contract says of the circuit
+    // called only for what its contract says about the circuit
     let _latches = netlist.latches();
     if netlist.hearing_output(alloc)?.is_some() {
         return Ok(false);
@@ -119,7 +120,8 @@ fn refutes<F: Solver>(
     }
 }
 
-/// The first circuit that is proposed, has the propositions of the automaton's counterpart, and refutes the automaton.
+/// Returns the first proposed circuit that has the propositions of the automaton's counterpart and refutes the automaton, or None if there
+/// is none. Fails only if memory runs out.
 fn first_refuting<F: Solver>(
     alloc: Global,
     automaton: &Automaton,
@@ -143,8 +145,8 @@ fn first_refuting<F: Solver>(
     Ok(None)
 }
 
-/// What `synth` finds where there is a controller, and else the first circuit that is proposed and refutes the automaton. It fails with
-/// `NoCounter` if there is no controller and no such circuit was found.
+/// Returns the answer of `synth` if there is a controller, and otherwise the first proposed circuit that refutes the automaton. Fails as
+/// `synth` does, and with `NoCounter` if there is no controller and no such circuit was found.
 pub(crate) fn synth_counter<F: Solver>(
     alloc: Global,
     text: Vec<u8>,

@@ -28,11 +28,11 @@ use std::error::Error;
 use std::fmt;
 use std::io::{self, Write};
 
-/// Why a command has no answer. Its text is what the program prints on the error stream after `parsolve: `. If memory
-/// runs out, the text is `out of memory`, even if the fault of a lower layer says so, which no command returns.
+/// Why a command has no answer. The fault's text is what the program prints on the error stream after `parsolve: `. If memory runs out, the
+/// text is `out of memory`, even if the fault of a lower layer says so, but no command returns such a fault.
 #[derive(Debug, Drop)]
 pub enum CliFault {
-    /// A growth was refused.
+    /// Memory ran out.
     OutOfMemory,
     /// The input could not be read to its end.
     Read,
@@ -42,11 +42,11 @@ pub enum CliFault {
     InputTooLong,
     /// There is no line `--` between the two texts.
     NoSeparator,
-    /// A text is no game, or no solution; never `OutOfMemory` or `Write`.
+    /// A text spells no game, or no solution; never `OutOfMemory` or `Write`.
     Text(TextFault),
-    /// A text is no script for the game; never `OutOfMemory`.
+    /// A text spells no script for the game; never `OutOfMemory`.
     Script(ScriptFault),
-    /// The world refuses the event with this index in the script, counted from 0, the first that it refuses; never
+    /// The world refuses the event with this index in the script, counted from 0. It is the first event that the world refuses. Never
     /// `OutOfMemory`.
     World(usize, WorldFault),
     /// The cut among the workers doesn't fit the game; no command returns this.
@@ -54,13 +54,13 @@ pub enum CliFault {
     /// The solver's map of the game and its map of the dual are both top at the vertex with this identifier, the least
     /// such one. The maps are the least progress measures, unless the solver may find others.
     Undecided(u32),
-    /// A text is no automaton; never `OutOfMemory`.
+    /// A text spells no automaton; never `OutOfMemory`.
     Hoa(HoaFault),
     /// The game of an automaton is too large; never `OutOfMemory`.
     Synth(SynthFault),
     /// The circuit of a controller is too large; never `OutOfMemory` or `Write`.
     Aiger(AigerFault),
-    /// A text is no circuit; never `OutOfMemory`.
+    /// A text spells no circuit; never `OutOfMemory`.
     Circuit(ReaderFault),
     /// The inputs and outputs of a circuit don't match the propositions of an automaton; never `OutOfMemory`.
     Tie(TieFault),
@@ -73,21 +73,22 @@ pub enum CliFault {
     Hearing(usize),
     /// There is no controller, and no circuit was found that plays the environment.
     NoCounter,
-    /// The program can't listen at any port of 127.0.0.1.
+    /// The program can't listen on any port of 127.0.0.1.
     Listen,
     /// Nobody answers at this port of 127.0.0.1.
     Connect(u16),
     /// A worker ended with this fault; never `OutOfMemory`.
     Worker(WorkerFault),
-    /// A text is no formula; never `OutOfMemory`.
+    /// A text spells no formula; never `OutOfMemory`.
     Formula(FormulaFault),
     /// An automaton and a formula have more than 16 propositions together.
     TooManyPropositions,
     /// There is no verdict on an automaton and a formula; never `OutOfMemory`.
     Means(MeansFault),
-    /// No automaton is found for a formula; never `OutOfMemory`.
+    /// No automaton was found for a formula; never `OutOfMemory`.
     Untranslated(Untranslated),
-    /// The automaton that is found for a formula isn't shown to accept exactly its words. No input is known for which this happens.
+    /// The automaton that was found for a formula isn't shown to accept exactly the words that satisfy it. No input is known for which this
+    /// happens.
     Unshown,
 }
 
@@ -378,7 +379,7 @@ impl From<Untranslated> for CliFault {
     }
 }
 
-/// The exit status of the program: 3 for `Undecided`, and otherwise 1.
+/// Returns the exit status of the program for a fault: 3 for `Undecided`, and 1 for every other fault.
 pub fn exit_code(fault: &CliFault) -> u8
     ensures { result ≡ status_of fault.now }
 {
@@ -388,8 +389,7 @@ pub fn exit_code(fault: &CliFault) -> u8
     }
 }
 
-/// Writes the line of a fault: `parsolve: `, its text and a newline. It takes no memory, and fails only if the writer
-/// does.
+/// Writes the line of a fault: `parsolve: `, its text and a newline. It allocates no memory, and fails only if the writer does.
 pub fn write_fault<W: Write>(fault: &CliFault, writer: &mut W) -> io::Result<()>
     ensures { OnOk result (Appends (W.contents writer.old) (W.contents writer.new) (fault_line fault.now)) }
 {

@@ -24,7 +24,7 @@ impl Answer for Game {
     }
 }
 
-/// The game of the automaton that a text spells. The text is let go before the game is made.
+/// Makes the game of the automaton that a text spells. Frees the text before it makes the game.
 pub(crate) fn game(alloc: Global, text: Vec<u8>) -> Result<Game, CliFault>
     ensures whole { IfOk result ⟦<Game as Answer>⟧.is_whole }
     ensures answer { IfOk result (ShowsWhat (IsMade text.items) ⟦<Game as Answer>⟧.shows) }

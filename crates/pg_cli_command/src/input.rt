@@ -11,17 +11,17 @@ use std::io::{ErrorKind, Read};
 /// The greatest number of bytes in an input.
 pub const MOST_BYTES: usize = 268_435_456;
 
-/// How many bytes are asked for at once.
+/// The most bytes that one read asks for.
 const CHUNK: usize = 65_536;
 
-/// Room for so many bytes.
+/// Returns room for `count` bytes.
 fn room_for(alloc: Global, count: usize) -> Result<Vec<u8>, AllocError>
     ensures { IfOk result (λ room. length room.items ≡ count) }
 {
     Vec::from_elem(alloc, 0u8, count)
 }
 
-/// Reads once, into a buffer, and adds what came. It tells whether more may come.
+/// Reads once into a buffer, and appends the bytes that came to the text. Returns whether more may come.
 fn read_some<R: Read>(
     reader: &mut R,
     buffer: &mut [u8],

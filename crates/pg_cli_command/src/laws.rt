@@ -1,4 +1,4 @@
-//! Laws over the definitions. Their functions take no memory and do nothing: their contracts are what they are for.
+//! Laws about the definitions. Each function states a law in its contract; it allocates no memory and does nothing.
 
 ghost use Rattle.std.specs.Prelude.{ℕ};
 ghost use Rattle.pg_synth.specs.Laws.{WordAndPlay};
@@ -9,8 +9,8 @@ ghost use Rattle.pg_cli_command.specs.Verdicts.{VerifyDecides};
 ghost use Rattle.pg_cli_command.specs.FormulaLaws.{MeansDecides, ControllerSatisfies, NoneSatisfies};
 ghost use Rattle.pg_cli_command.specs.Laws.{PrintedWinnersWin, AnyPrintedWinnersWin, LeastIsClosed, OneAnswer};
 
-/// What `solve` prints for a game spells a solution of it, whichever closed maps are found. Each printed winner wins, by the
-/// printed strategy, every endless play that follows it, and no vertex has two winners.
+/// The output of `solve` for a game spells a solution of the game, whichever closed maps are found. Each printed winner wins every endless
+/// play that follows the printed strategy, and no vertex has two winners.
 pub fn printed_winners_win()
     ensures { PrintedWinnersWin }
 {
@@ -20,7 +20,8 @@ pub fn printed_winners_win()
     pg_check::laws::one_winner();
 }
 
-/// The same of what `solve --any` prints.
+/// The output of `solve --any` for a game spells a solution of the game. Each printed winner wins every endless play that follows the
+/// printed strategy, and no vertex has two winners.
 pub fn any_printed_winners_win()
     ensures { AnyPrintedWinnersWin }
 {
@@ -29,14 +30,14 @@ pub fn any_printed_winners_win()
     pg_check::laws::one_winner();
 }
 
-/// An answer by least progress measures is one by closed maps, of which the other laws speak.
+/// An answer by least progress measures is also an answer by closed maps, which the other laws are about.
 pub fn least_is_closed()
     ensures { LeastIsClosed }
 {}
 
-/// By least progress measures `measure` has one answer to an input, and so have `solve`, `synth`, `replay` and `game`; where
-/// `solve` has one it isn't undecided; where `replay` has one no event is refused, and where one is it is at one place and for
-/// one fault; where `game` has one it isn't too large. So what these five write is a function of what they read.
+/// By least progress measures, `measure`, `solve`, `synth`, `replay` and `game` each have at most one answer to an input. If `solve` has an
+/// answer, it isn't undecided. If `replay` has an answer, no event is refused; if an event is refused, its place and its fault are unique.
+/// If `game` has an answer, the game isn't too large. So the output of these five commands is a function of their input.
 pub fn one_answer()
     ensures { OneAnswer }
 {
@@ -59,8 +60,8 @@ pub fn word_and_play()
     pg_synth::laws::word_and_play();
 }
 
-/// What `synth` prints behind `REALIZABLE` spells a circuit, whichever closed maps are found. For every endless word of input
-/// letters it has exactly one run, and the automaton that the input spells accepts the word of that run.
+/// The text that `synth` prints after `REALIZABLE` spells a circuit, whichever closed maps are found. For every endless word of input
+/// letters the circuit has exactly one run, and the automaton that the input spells accepts the word of that run.
 pub fn circuit_accepted()
     ensures { (letters : ℕ → ℕ) → CircuitAccepted letters }
 {
@@ -69,7 +70,8 @@ pub fn circuit_accepted()
     pg_synth::laws::machine_accepted();
 }
 
-/// The same of what `synth --small` prints, whatever circuits are proposed.
+/// The text that `synth --small` prints after `REALIZABLE` spells a circuit, whatever circuits are proposed. For every endless word of
+/// input letters the circuit has exactly one run, and the automaton that the input spells accepts the word of that run.
 pub fn small_accepted()
     ensures { (letters : ℕ → ℕ) → SmallAccepted letters }
 {
@@ -79,25 +81,25 @@ pub fn small_accepted()
     pg_synth::laws::machine_accepted();
 }
 
-/// What `synth --counter` prints behind `UNREALIZABLE` spells a circuit, whatever circuits are proposed, whose outputs don't depend on inputs
-/// of the same step. For every endless list of the controller's letters it has exactly one run, and the automaton that the input spells
-/// doesn't accept the word of that run.
+/// The text that `synth --counter` prints after `UNREALIZABLE` spells a circuit, whatever circuits are proposed. The circuit's outputs
+/// don't depend on inputs of the same step. For every endless list of the controller's letters the circuit has exactly one run, and the
+/// automaton that the input spells doesn't accept the word of that run.
 pub fn counter_refutes()
     ensures { CounterRefutes }
 {
     pg_aiger::laws::circuit_reads_back();
 }
 
-/// Where `synth` prints `UNREALIZABLE`, whichever closed maps are found, an endless word isn't accepted if its input letters are
-/// those that Odd's strategy chooses at the arrivals which the word traces.
+/// If `synth` prints `UNREALIZABLE`, then, whichever closed maps are found, the automaton doesn't accept an endless word whose input
+/// letters are those that Odd's strategy chooses at the arrivals that the word traces.
 pub fn unrealizable()
     ensures { (letters : ℕ → ℕ) → NoneAccepted letters }
 {
     pg_synth::laws::unrealizable();
 }
 
-/// Where `synth` prints `UNREALIZABLE`, whichever closed maps are found, there is no controller: each function from the input
-/// letters so far to an output letter has an endless word of input letters of which it makes a word that isn't accepted.
+/// If `synth` prints `UNREALIZABLE`, then, whichever closed maps are found, there is no controller: for each function from the input
+/// letters so far to an output letter there is an endless word of input letters from which the function makes a word that isn't accepted.
 pub fn no_controller()
     ensures { NoController }
 {
@@ -112,8 +114,8 @@ pub fn one_verdict()
     pg_check::laws::one_winner();
 }
 
-/// An input that `synth` answers is none that it refuses for the limits: the game of its automaton isn't too large, whichever
-/// closed maps are found, and by least progress measures nor is the machine that Even wins by.
+/// If `synth` answers an input, it doesn't refuse that input for the limits: the game of the automaton isn't too large, whichever closed
+/// maps are found, and, by least progress measures, neither is the machine that Even wins by.
 pub fn answers_within_limits()
     ensures { AnswersWithinLimits }
 {
@@ -124,8 +126,9 @@ pub fn answers_within_limits()
     pg_synth::laws::one_machine();
 }
 
-/// What `verify` prints for two texts tells whether the automaton that the first spells accepts each run of the circuit that the
-/// second spells. Each spells one. The output is `ACCEPTED` exactly if it does; else it shows input letters on which it doesn't.
+/// The output of `verify` for two texts says whether the automaton that the first text spells accepts each run of the circuit that the
+/// second text spells. Each text spells exactly one. The output is `ACCEPTED` exactly if the automaton accepts each run; otherwise it shows
+/// input letters on which the automaton doesn't.
 pub fn verify_decides()
     ensures { VerifyDecides }
 {
@@ -135,8 +138,9 @@ pub fn verify_decides()
     pg_verify::laws::verdicts_decide();
 }
 
-/// What `means` prints for two texts tells whether the automaton that the first spells accepts exactly the words that satisfy the formula
-/// that the second spells. Each spells one. The output is `SAME` exactly if it does; else it shows a word on which they differ.
+/// The output of `means` for two texts says whether the automaton that the first text spells accepts exactly the words that satisfy the
+/// formula that the second text spells. Each text spells exactly one. The output is `SAME` exactly if it does; otherwise the output shows a
+/// word on which automaton and formula differ.
 pub fn means_decides()
     ensures { MeansDecides }
 {
@@ -144,8 +148,8 @@ pub fn means_decides()
     pg_ltl::laws::one_reading();
 }
 
-/// If `automaton` prints an automaton for a formula, and `synth` or `synth --small` a circuit for this automaton with outputs, then for
-/// every endless word of input letters the circuit has exactly one run, and its word satisfies the formula.
+/// If `automaton` prints an automaton for a formula, and `synth` or `synth --small` prints a circuit for this automaton with outputs, then
+/// for every endless word of input letters the circuit has exactly one run, and the word of that run satisfies the formula.
 pub fn controller_satisfies()
     ensures { (letters : ℕ → ℕ) → ControllerSatisfies letters }
 {
@@ -154,8 +158,9 @@ pub fn controller_satisfies()
     small_accepted();
 }
 
-/// Where `synth` prints `UNREALIZABLE` for it there is no controller: each function from the input letters so far to an output letter has
-/// an endless word of input letters of which it makes a word that doesn't satisfy the formula.
+/// If `automaton` prints an automaton for a formula, and `synth` prints `UNREALIZABLE` for this automaton with outputs, there is no
+/// controller: for each function from the input letters so far to an output letter there is an endless word of input letters from which the
+/// function makes a word that doesn't satisfy the formula.
 pub fn none_satisfies()
     ensures { NoneSatisfies }
 {

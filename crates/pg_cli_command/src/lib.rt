@@ -1,5 +1,5 @@
-//! The commands of the program. Each is a function from a text to an answer, a value whose text is then written. A
-//! command that solves takes a method of solving, which finds maps of games.
+//! The commands of the program. Each command is a function from a text to an answer, a value whose text is then written. A command that
+//! solves games takes a method of solving, which finds maps of games.
 #![tactic(auto)]
 
 mod automaton;

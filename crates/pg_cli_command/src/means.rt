@@ -23,7 +23,7 @@ impl Answer for Compared {
     }
 }
 
-/// What is found of the automaton that the first text spells and the formula that the second text spells.
+/// Compares the automaton that the first text spells with the formula that the second text spells.
 pub(crate) fn means(alloc: Global, texts: Texts) -> Result<Compared, CliFault>
     ensures whole { IfOk result ⟦<Compared as Answer>⟧.is_whole }
     ensures answer { IfOk result (ShowsWhat (IsMeant (parting_of texts)) ⟦<Compared as Answer>⟧.shows) }

@@ -15,14 +15,14 @@ use pg_text::read_game;
 use std::alloc::{AllocError, Global};
 use std::io::{self, Write};
 
-/// Room for a measure of the map.
+/// Returns room for one measure of the map.
 fn room_for<M: Measures>(alloc: Global, map: &M) -> Result<Vec<u32>, AllocError>
     ensures { IfOk result (λ room. length room.items ≡ length (M.map map.now).bounds) }
 {
     Ok(vec![in alloc; 0; map.bounds().pairs().len()]?)
 }
 
-/// Writes the line of each vertex, by rising identifier.
+/// Writes a line for each vertex, in rising order of identifiers.
 fn write_measures<M: Measures, W: Write>(
     game: &Game,
     map: &M,
@@ -65,7 +65,7 @@ impl<M: Measures + Drop> Answer for Measured<M> {
     }
 }
 
-/// A map of the game that a text spells. The text is let go before the work begins.
+/// Finds a map of the game that a text spells. Frees the text before the work begins.
 pub(crate) fn measure<F: Solver>(
     alloc: Global,
     text: Vec<u8>,

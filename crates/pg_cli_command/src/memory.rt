@@ -5,8 +5,8 @@ ghost use Rattle.pg_cli_command.specs.InMemory.{in_memory};
 
 use crate::fault::CliFault;
 
-/// What was written to memory, if it was written; and else why not. A write to memory fails only where memory runs out; any other fault
-/// is handed on.
+/// Returns the output that was written to memory, or the fault. A write to memory fails only if memory runs out, so `Write` becomes
+/// `OutOfMemory`. Every other fault stays as it is.
 pub fn in_memory(written: Result<(), CliFault>, output: Vec<u8>) -> Result<Vec<u8>, CliFault>
     ensures { result ≡ in_memory written output }
 {

@@ -12,10 +12,10 @@ use pg_measure::View;
 use pg_text::writing::{ShortLine, add_number, write_number, write_numbers};
 use std::io::{self, Write};
 
-/// Lines of measures of more components are written part by part.
+/// The most components of a measure whose line is written at once. Lines with more components are written part by part.
 const MOST: usize = 28;
 
-/// Appends numbers, each behind a comma. None where they don't fit.
+/// Appends numbers, each after a comma. Returns None if they don't fit.
 fn add_comma_numbers(line: &mut ShortLine, numbers: &[u32]) -> Option<()>
     ensures { OnSome result (line.new.items ≡ line.old.items ++ flat_map comma_number numbers.now) }
 {
@@ -26,7 +26,7 @@ fn add_comma_numbers(line: &mut ShortLine, numbers: &[u32]) -> Option<()>
     Some(())
 }
 
-/// Appends numbers with commas between. None where they don't fit.
+/// Appends numbers separated by commas. Returns None if they don't fit.
 fn add_numbers(line: &mut ShortLine, numbers: &[u32]) -> Option<()>
     ensures { OnSome result (line.new.items ≡ line.old.items ++ numbers_text numbers.now) }
 {
@@ -39,8 +39,8 @@ fn add_numbers(line: &mut ShortLine, numbers: &[u32]) -> Option<()>
     }
 }
 
-/// Appends the line of a vertex whose measure is a list of few components. None where there are none or many, and where the
-/// line doesn't fit.
+/// Appends the line of a vertex whose measure is a list of 1 to `MOST` components. Returns None if there are none or more, or if the line
+/// doesn't fit.
 #[inline(always)]
 fn add_line(line: &mut ShortLine, identifier: u32, components: &[u32]) -> Option<()>
     ensures { OnSome result (line.new.items ≡ line.old.items ++ measure_line identifier (Some components.now)) }
@@ -54,7 +54,7 @@ fn add_line(line: &mut ShortLine, identifier: u32, components: &[u32]) -> Option
     line.try_extend_from_slice(b";\n").ok()
 }
 
-/// Writes a measure: `T` for top, `-` for the list without components, and else the components with commas.
+/// Writes a measure: `T` for top, `-` for the list without components, and otherwise the components separated by commas.
 fn write_measure<W: Write>(writer: &mut W, measure: View) -> io::Result<()>
     ensures { OnOk result
         (Appends (W.contents writer.old) (W.contents writer.new) (measure_text (measure_in measure.entry))) }

@@ -8,11 +8,11 @@ use crate::fault::CliFault;
 use memchr::memmem;
 use std::alloc::Global;
 
-/// What stands between the two texts: the newline that ends the first one, and a line of two hyphens.
+/// The bytes where the two texts meet: the newline that ends the first text, and a line of two hyphens.
 const SEPARATOR: &[u8] = b"\n--\n";
 
-/// The two texts of an input: the first ends with the newline before the first line `--`, the second begins after that
-/// line. None where there is no such line.
+/// Returns the two texts of an input. The first text ends with the newline before the first line `--`, and the second text begins after
+/// that line. Returns None if there is no such line.
 fn part(input: &[u8]) -> Option<(&[u8], &[u8])>
     ensures parted { IfSome result (λ texts. IsParted input.now texts.0.now texts.1.now) }
     ensures none { IfNone result ((first second : List ℕ) → ¬ IsParted input.now first second) }
@@ -40,14 +40,14 @@ pub fn part_texts(alloc: Global, input: &[u8]) -> Result<(Vec<u8>, Vec<u8>), Cli
 /// The two texts that a command is given.
 #[derive(Drop)]
 pub(crate) enum Texts {
-    /// In one input, with a line `--` between.
+    /// Both in one input, with a line `--` between them.
     Joined(Vec<u8>),
-    /// Each by itself.
+    /// Each text by itself.
     Apart(Vec<u8>, Vec<u8>),
 }
 
 impl Texts {
-    /// Both texts. None where one input has no line `--`.
+    /// Returns both texts, or None if they are in one input that has no line `--`.
     pub(crate) fn both(&self) -> Option<(&[u8], &[u8])>
         ensures parted { IfSome result (λ texts. parting_of self.now texts.0.now texts.1.now) }
         ensures none { IfNone result ((first second : List ℕ) → ¬ parting_of self.now first second) }

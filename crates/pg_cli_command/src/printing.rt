@@ -6,22 +6,22 @@ ghost use Rattle.std.specs.Io.KnownBytes.{Appends};
 use crate::fault::CliFault;
 use std::io::Write;
 
-/// What a command has worked out of an input: a value whose text is still to be written.
+/// The answer that a command worked out from an input: a value whose text isn't written yet.
 pub(crate) trait Answer {
-    /// What has to be so of it.
+    /// What must hold of an answer that is written.
     ghost is_whole: { Self → Type 0 };
 
-    /// The output is its text.
+    /// The output is the answer's text.
     ghost shows: { Self → List ℕ → Type 0 };
 
-    /// Writes its text. None where the writer fails.
+    /// Writes the answer's text. Returns None if the writer fails.
     fn write<W: Write>(self, writer: &mut W) -> Option<()>
         requires { is_whole self }
         ensures { OnSome result ((output : List ℕ) → shows self output
             → Appends (W.contents writer.old) (W.contents writer.new) output) };
 }
 
-/// Writes the text of the answer that was worked out. Where there is none the fault is handed on, and nothing is written.
+/// Writes the text of an answer. If there is a fault instead, returns the fault and writes nothing. Fails with `Write` if the writer fails.
 pub(crate) fn print<A: Answer, W: Write>(
     worked_out: Result<A, CliFault>,
     writer: &mut W,

@@ -1,4 +1,4 @@
-//! A command from its input to its answer.
+//! Runs a command, from its input to its answer.
 
 ghost use Rattle.std.specs.Prelude.{◌≡◌, ◌≢◌, ◌+◌, ◌≤◌, ℕ, List, length, ◌⊎◌, IfOk, OnOk, IfSome, IsNone, IfErr};
 ghost use Rattle.std.specs.Io.KnownBytes.{Appends};
@@ -35,7 +35,8 @@ use pg_cli_words::Command;
 use std::alloc::Global;
 use std::io::{Read, Write};
 
-/// Writes what `verify` prints for two texts in one input, of a controller or of a circuit that plays the environment.
+/// Writes what `verify` prints for two texts in one input. The circuit plays the environment if `environment` is set, and otherwise the
+/// controller.
 fn write_look<F: Solver, W: Write>(
     alloc: Global,
     text: Vec<u8>,
@@ -56,8 +57,8 @@ fn write_look<F: Solver, W: Write>(
     print(verify(alloc, Texts::Joined(text), by_place, solver), writer)
 }
 
-/// Writes the answer to a text, and nothing else, as `run_by` does after it has read its input. It fails as `run_by`
-/// does from `NoSeparator` on, in the same order, and never with `Read` or `InputTooLong`.
+/// Writes the answer to a text of at most `MOST_BYTES` bytes, and nothing else, as `run_by` does after it has read its input. It fails as
+/// `run_by` does from `NoSeparator` on, in the same order, and never with `Read` or `InputTooLong`.
 pub fn answer<F: Solver, W: Write>(
     alloc: Global,
     command: Command,
@@ -126,8 +127,8 @@ pub fn verify_texts<F: Solver>(
     in_memory(written, output)
 }
 
-/// Returns what `verify --environment` prints for an automaton and a circuit that plays the environment, given as two texts. Fails as
-/// `verify_texts` does, and with `Hearing` for an output that depends on an input of the same step.
+/// Returns what `verify --environment` prints for an automaton and a circuit that plays the environment, given as two texts; they need no
+/// line `--`. Fails as `verify_texts` does, and with `Hearing` for an output that depends on an input of the same step.
 pub fn refute_texts<F: Solver>(
     alloc: Global,
     by_place: bool,
@@ -201,7 +202,7 @@ pub fn run_by<F: Solver, R: Read, W: Write>(
         → OnOk result (IfSome (R.remaining reader.old) (λ input.
         (output : List ℕ) × IsMeasured (F.measures solver.old) input output
         × Appends (W.contents writer.old) (W.contents writer.new) output)) }
-    // Whatever comes of it, no byte behind the first one over the limit is read.
+    // In every case, no byte after the first one over the limit is read.
     ensures no_further { StaysWithin (R.remaining reader.old) (R.remaining reader.new) (MOST_BYTES + 1) }
     ensures untouched { IfErr result (λ fault. fault ≢ CliFault.Write → writer.new ≡ writer.old) }
     ensures unused { IsNone (workers_of command) → solver.new ≡ solver.old }

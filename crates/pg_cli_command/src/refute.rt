@@ -18,7 +18,8 @@ use pg_verify_environment::{Outcome, counterpart, outcome_of};
 use std::alloc::Global;
 use std::io::{self, Write};
 
-/// What is found of a circuit that plays the environment, and its inputs: in its own order, and in that of the automaton's propositions.
+/// The outcome for a circuit that plays the environment, and the circuit's inputs: in the circuit's own order, and in the order of the
+/// automaton's propositions.
 #[derive(Drop)]
 pub(crate) struct Refuted {
     given: Vec<u32>,
@@ -56,7 +57,7 @@ impl Answer for Refuted {
     }
 }
 
-/// What is found of the circuit that the second text spells, which plays the environment against the automaton of the first.
+/// Returns the outcome for the circuit that the second text spells, which plays the environment against the automaton of the first text.
 pub(crate) fn refute<F: Solver>(
     alloc: Global,
     texts: Texts,
@@ -71,7 +72,7 @@ pub(crate) fn refute<F: Solver>(
         None => Err(CliFault::NoSeparator),
         Some((first, second)) => {
             let automaton = read_automaton(alloc, first)?;
-            // asked for what its contract says of the automaton
+            // called only for what its contract says about the automaton
             let _states = automaton.states();
             let twin = counterpart(alloc, &automaton)?;
             let parts = read_circuit(alloc, second)?;

@@ -28,7 +28,7 @@ impl Answer for World {
     }
 }
 
-/// The game and the script that two texts spell.
+/// Reads the game that the first text spells, and the script that the second text spells.
 fn scripted(alloc: Global, texts: &Texts) -> Result<(Game, Script), CliFault>
     ensures found { IfOk result (λ x. (first : List ℕ) × (second : List ℕ) × parting_of texts.now first second
         × IsGameText first x.0 × IsScriptText second x.0 x.1.cut x.1.events.items) }
@@ -44,8 +44,8 @@ fn scripted(alloc: Global, texts: &Texts) -> Result<(Game, Script), CliFault>
     }
 }
 
-/// The world after the events of the script that the second text spells, for the game of the first. The texts are let go before they
-/// happen.
+/// Returns the world after the events of the script that the second text spells, for the game of the first text. Frees the texts before the
+/// events happen.
 pub(crate) fn replay(alloc: Global, texts: Texts) -> Result<World, CliFault>
     ensures whole { IfOk result ⟦<World as Answer>⟧.is_whole }
     ensures answer { IfOk result (ShowsWhat (IsReplayed (parting_of texts)) ⟦<World as Answer>⟧.shows) }

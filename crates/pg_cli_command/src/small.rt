@@ -18,7 +18,7 @@ use pg_hoa::Automaton;
 use pg_verify::Verdict;
 use std::alloc::Global;
 
-/// Whether the automaton accepts each run of the circuit; not if that can't be found out.
+/// Whether the automaton accepts each run of the circuit. Returns false if that can't be determined. Fails only if memory runs out.
 fn is_accepted<F: Solver>(
     alloc: Global,
     automaton: &Automaton,
@@ -42,13 +42,13 @@ fn is_accepted<F: Solver>(
     }
 }
 
-/// How many latches and gates a circuit has.
+/// Returns the number of latches and gates of a circuit.
 fn size_of(circuit: &Circuit) -> usize {
     let (_, nexts, _, gates) = circuit.parts();
     nexts.len() + gates.len()
 }
 
-/// The circuit that is proposed, if it has the inputs and outputs of the plain one and is smaller.
+/// Returns the proposed circuit if it has as many inputs and outputs as the plain one and is smaller.
 fn smaller_one(plain: &Circuit, proposal: Proposal) -> Option<Circuit>
     ensures { IfSome result (λ circuit. IsShapedAs plain.now circuit) }
 {
@@ -69,7 +69,8 @@ fn smaller_one(plain: &Circuit, proposal: Proposal) -> Option<Circuit>
     }
 }
 
-/// The first circuit that is proposed, is smaller than the plain one, and has runs that the automaton accepts alone.
+/// Returns the first proposed circuit that is smaller than the plain one and whose every run the automaton accepts, or None if there is
+/// none. Fails only if memory runs out.
 fn first_accepted<F: Solver>(
     alloc: Global,
     automaton: &Automaton,
@@ -92,8 +93,8 @@ fn first_accepted<F: Solver>(
     Ok(None)
 }
 
-/// What `synth` finds, with the first circuit in place of the plain one that is proposed, is smaller, and has runs that the automaton
-/// accepts alone, if there is one.
+/// Returns the answer of `synth`. If a proposed circuit is smaller than the plain one and the automaton accepts its every run, the first
+/// such circuit replaces the plain one. Fails as `synth` does.
 pub(crate) fn synth_small<F: Solver>(
     alloc: Global,
     text: Vec<u8>,

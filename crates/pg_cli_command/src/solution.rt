@@ -1,4 +1,4 @@
-//! Games that are solved by the maps that are found of them.
+//! Solves games by the maps that a solver finds.
 
 ghost use Rattle.std.specs.Prelude.{IfOk, IfErr};
 ghost use Rattle.pg_arena.specs.Games.{HasPrioritiesUpTo};
@@ -14,7 +14,7 @@ use pg_check::{find_solution, strategies};
 use pg_text::Solution;
 use std::alloc::Global;
 
-/// The solution of a map of a game and of one of its dual.
+/// Returns the solution that a map of a game and a map of its dual give. The solver finds both maps.
 pub(crate) fn solution_of<F: Solver>(
     alloc: Global,
     game: &Game,
@@ -30,7 +30,8 @@ pub(crate) fn solution_of<F: Solver>(
     Ok(strategies(alloc, game, &maps.of_game, &maps.of_dual)?)
 }
 
-/// A sound solution of a game: one that is found at once, and else that of a map of the game and of one of its dual.
+/// Returns a sound solution of a game: one that is found at once, if there is one, and otherwise the solution that a map of the game and a
+/// map of its dual give.
 pub(crate) fn any_solution_of<F: Solver>(
     alloc: Global,
     game: &Game,

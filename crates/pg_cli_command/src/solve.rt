@@ -1,4 +1,4 @@
-//! The command `solve`, and the same with `--any`.
+//! The commands `solve` and `solve --any`.
 
 ghost use Rattle.std.specs.Prelude.{◌≡◌, IfOk, IfErr};
 ghost use Rattle.pg_text.specs.Solutions.{IsSolution};
@@ -32,7 +32,7 @@ impl Answer for Solved {
     }
 }
 
-/// The solution of a map of the game that a text spells and of one of its dual. The text is let go before the work begins.
+/// Solves the game that a text spells, by a map of the game and a map of its dual. Frees the text before the work begins.
 pub(crate) fn solve<F: Solver>(
     alloc: Global,
     text: Vec<u8>,
@@ -43,14 +43,14 @@ pub(crate) fn solve<F: Solver>(
     ensures refused { IfErr result (Fails (RefusesSolve (F.finds solver.old) text.items)) }
 {
     let game = read_game(alloc, &text)?;
-    // asked for what its contract says of the game
+    // called only for what its contract says about the game
     let _vertices = game.len();
     drop(text);
     let solution = solution_of(alloc, &game, solver)?;
     Ok(Solved { game, solution })
 }
 
-/// A sound solution of the game that a text spells, whichever is found. The text is let go before the work begins.
+/// Returns a sound solution, whichever is found, of the game that a text spells. Frees the text before the work begins.
 pub(crate) fn solve_any<F: Solver>(
     alloc: Global,
     text: Vec<u8>,
@@ -61,7 +61,7 @@ pub(crate) fn solve_any<F: Solver>(
     ensures refused { IfErr result (Fails (RefusesSolve (F.finds solver.old) text.items)) }
 {
     let game = read_game(alloc, &text)?;
-    // asked for what its contract says of the game
+    // called only for what its contract says about the game
     let _vertices = game.len();
     drop(text);
     let solution = any_solution_of(alloc, &game, solver)?;

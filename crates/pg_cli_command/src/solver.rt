@@ -13,9 +13,9 @@ use pg_map::Measures;
 use pg_solver::Maps;
 use std::alloc::{AllocError, Global};
 
-/// A proposed circuit: the next literals of the latches, the literals of the outputs, and the gates. Its variables from 1 on are the
-/// inputs, then the latches, then the gates, each over literals of smaller variables, the greater one first. A literal is twice its
-/// variable, plus one if it is negated.
+/// A proposed circuit: the next literals of the latches, the literals of the outputs, and the gates. Variables are numbered from 1: first
+/// the inputs, then the latches, then the gates. Each gate is over literals of smaller variables, and names the greater literal first. A
+/// literal is twice its variable, plus one if it is negated.
 #[derive(Drop)]
 pub struct Proposal {
     pub nexts: Vec<u32>,
@@ -23,14 +23,14 @@ pub struct Proposal {
     pub gates: Vec<Gate>,
 }
 
-/// Why no automaton is found for a formula.
+/// Why no automaton was found for a formula.
 #[derive(Clone, Copy, Debug, PartialEq, Eq)]
 pub enum Untranslated {
-    /// A growth was refused.
+    /// Memory ran out.
     OutOfMemory,
-    /// The automaton has more states or letters than are looked for.
+    /// The automaton has more states or letters than the search allows.
     TooManyStates,
-    /// The search takes more steps than it is given.
+    /// The search needs more steps than its limit allows.
     TooManySteps,
 }
 
@@ -42,7 +42,7 @@ pub trait Solver {
     /// The kind of the maps that it finds. They are closed.
     ghost finds: { Self → MapKind };
 
-    /// The kind of the map that `measure` finds, beyond that.
+    /// The kind of the map that `measure` finds, in addition to `finds`.
     ghost measures: { Self → MapKind };
 
     /// Finds a map of a game. Fails only if memory runs out.
@@ -50,18 +50,18 @@ pub trait Solver {
         ensures found { IfOk result (λ map. finds self.old game.now (Self.Map.map map)) }
         ensures measured { IfOk result (λ map. measures self.old game.now (Self.Map.map map)) };
 
-    /// A map of a game, and one of its dual.
+    /// Finds a map of a game and a map of its dual. The priorities of the game must be at most 65535. Fails only if memory runs out.
     fn solve(&mut self, alloc: Global, game: &Game) -> Result<Maps<Self::Map>, AllocError>
         requires priorities { HasPrioritiesUpTo 65535 game.now }
         ensures of_game { IfOk result (λ maps. finds self.old game.now (Self.Map.map maps.of_game)) }
         ensures of_dual { IfOk result (λ maps. finds self.old (dual game.now) (Self.Map.map maps.of_dual)) };
 
-    /// Small circuits that are to be such that the automaton accepts each of their runs, the smallest first; perhaps none. Nothing is
-    /// believed of them.
+    /// Proposes small circuits, the smallest first; there may be none. The automaton should accept each of their runs, but nothing is
+    /// believed of them. Fails only if memory runs out.
     fn propose(&self, alloc: Global, automaton: &Automaton) -> Result<Vec<Proposal>, AllocError>;
 
-    /// The text of an automaton, in HOA v1, that is to accept exactly the words that satisfy the formula, whose propositions have these
-    /// names. Nothing is believed of it.
+    /// Returns the text of an automaton in HOA v1. The automaton should accept exactly the words that satisfy the formula, but nothing is
+    /// believed of it. `names` has the names of the formula's propositions.
     fn translate(
         &self,
         alloc: Global,
@@ -69,8 +69,9 @@ pub trait Solver {
         names: &[Vec<u8>],
     ) -> Result<Vec<u8>, Untranslated>;
 
-    /// Circuits that are to be such that the automaton, which is the counterpart of one that no controller serves, accepts each of their
-    /// runs, and that no output depends on an input of the same step, the smallest first; perhaps none. Nothing is believed of them.
+    /// Proposes circuits that play the environment, the smallest first; there may be none. The automaton is the counterpart of one that has
+    /// no controller. It should accept each run of the circuits, and no output should depend on an input of the same step, but nothing is
+    /// believed of them. Fails only if memory runs out.
     fn propose_environment(
         &self,
         alloc: Global,

@@ -32,7 +32,7 @@ pub(crate) fn write_realized<W: Write>(
     write_circuit(circuit, automaton, writer)
 }
 
-/// An automaton, and a circuit under which each of its runs is accepted, where there is one.
+/// An automaton and, if there is one, a circuit under which each of the automaton's runs is accepted.
 #[derive(Drop)]
 pub(crate) struct Synthesised {
     pub automaton: Automaton,
@@ -53,8 +53,8 @@ impl Answer for Synthesised {
     }
 }
 
-/// Whether there is a controller under which each run of the automaton that a text spells is accepted, and the circuit of one.
-/// The text is let go before the game is made, and the game before the circuit is.
+/// Decides whether the automaton that a text spells has a controller under which each run is accepted, and returns the circuit of one if it
+/// has. Frees the text before it makes the game, and the game before it makes the circuit.
 pub(crate) fn synth<F: Solver>(
     alloc: Global,
     text: Vec<u8>,
@@ -69,7 +69,7 @@ pub(crate) fn synth<F: Solver>(
 {
     let automaton = read_automaton(alloc, &text)?;
     drop(text);
-    // asked for what its contract says of the automaton
+    // called only for what its contract says about the automaton
     let _states = automaton.states();
     let made = game_of(alloc, &automaton)?;
     let solution = solution_of(alloc, &made.game, solver)?;

@@ -26,7 +26,8 @@ use pg_verify::{Verdict, product_of, verdict_of};
 use std::alloc::Global;
 use std::io::{self, Write};
 
-/// The bit of an input letter that an input has, by its literal.
+/// Returns the bit of an input letter for the input with this literal, or 0 if no input has it. `tied` has the inputs in the order of the
+/// letter's bits.
 fn bit_of(tied: &[u32], letter: u32, literal: u32) -> u32
     ensures { result ≡ bit_of tied.now letter literal }
 {
@@ -40,7 +41,7 @@ fn bit_of(tied: &[u32], letter: u32, literal: u32) -> u32
     0
 }
 
-/// The text of a bit.
+/// Returns the text of a bit.
 fn bit_text(bit: u32) -> &'static [u8]
     ensures { result.now ≡ bit_text bit }
 {
@@ -77,7 +78,7 @@ pub(crate) fn write_letters<W: Write>(
     Ok(())
 }
 
-/// What is found of a circuit, and its inputs: in its own order, and in that of the automaton's propositions.
+/// The verdict on a circuit, and the circuit's inputs: in the circuit's own order, and in the order of the automaton's propositions.
 #[derive(Drop)]
 pub(crate) struct Verified {
     given: Vec<u32>,
@@ -119,7 +120,7 @@ impl Answer for Verified {
     }
 }
 
-/// The verdict on a circuit, by a sound solution of the game of its product with an automaton, whichever is found.
+/// Returns the verdict on a circuit, by any sound solution that is found of the game of the circuit's product with an automaton.
 pub(crate) fn verdict_on<F: Solver>(
     alloc: Global,
     automaton: &Automaton,
@@ -133,7 +134,7 @@ pub(crate) fn verdict_on<F: Solver>(
     ensures within { OnOk result (¬ HasTooManyStates automaton.now netlist.now) }
     ensures refused { IfErr result (IsUnlooked (F.finds solver.old) automaton.now netlist.now) }
 {
-    // asked for what its contract says of the circuit
+    // called only for what its contract says about the circuit
     let _latches = netlist.latches();
     let product = product_of(alloc, automaton, netlist)?;
     let made = game_of(alloc, &product)?;
@@ -141,7 +142,7 @@ pub(crate) fn verdict_on<F: Solver>(
     Ok(verdict_of(alloc, &product, &made, &solution)?)
 }
 
-/// What is found of the circuit that the second text spells, beside the automaton of the first.
+/// Returns the verdict on the circuit that the second text spells, for the automaton of the first text.
 pub(crate) fn verify<F: Solver>(
     alloc: Global,
     texts: Texts,
@@ -156,7 +157,7 @@ pub(crate) fn verify<F: Solver>(
         None => Err(CliFault::NoSeparator),
         Some((first, second)) => {
             let automaton = read_automaton(alloc, first)?;
-            // asked for what its contract says of the automaton
+            // called only for what its contract says about the automaton
             let _states = automaton.states();
             let parts = read_circuit(alloc, second)?;
             let given = Vec::from_slice(alloc, &parts.inputs)?;

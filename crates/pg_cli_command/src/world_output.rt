@@ -45,7 +45,7 @@ fn write_updates<W: Write>(world: &World, writer: &mut W) -> io::Result<()>
     Ok(())
 }
 
-/// Numbers of updates, each behind a comma.
+/// Writes the numbers of updates, each after a comma.
 fn write_comma_places<W: Write>(places: &[usize], writer: &mut W) -> io::Result<()>
     ensures { OnOk result (Appends (W.contents writer.old) (W.contents writer.new)
         (flat_map comma_number places.now)) }
@@ -57,7 +57,7 @@ fn write_comma_places<W: Write>(places: &[usize], writer: &mut W) -> io::Result<
     Ok(())
 }
 
-/// Writes the numbers of the updates that a replica took, with commas between, or `-` where there is none.
+/// Writes the numbers of the updates that a replica took, separated by commas, or `-` if there are none.
 fn write_taken<W: Write>(taken: &[usize], writer: &mut W) -> io::Result<()>
     ensures { OnOk result (Appends (W.contents writer.old) (W.contents writer.new) (taken_text taken.now)) }
 {
@@ -70,7 +70,7 @@ fn write_taken<W: Write>(taken: &[usize], writer: &mut W) -> io::Result<()>
     }
 }
 
-/// Writes the line of each vertex in the map of a replica, by rising identifier.
+/// Writes a line for each vertex in the map of a replica, in rising order of identifiers.
 fn write_map<W: Write>(world: &World, replica: u32, writer: &mut W) -> io::Result<()>
     requires { replica ≤ world.now.cut.workers }
     ensures { OnOk result ((f : List MeasureValue) → IsMapOf world.now replica f
@@ -84,7 +84,7 @@ fn write_map<W: Write>(world: &World, replica: u32, writer: &mut W) -> io::Resul
     Ok(())
 }
 
-/// Writes what a replica took, and its map.
+/// Writes the updates that a replica took, and then its map.
 fn write_replica<W: Write>(world: &World, replica: u32, writer: &mut W) -> io::Result<()>
     requires { replica ≤ world.now.cut.workers }
     ensures { OnOk result ((f : List MeasureValue) → IsMapOf world.now replica f
@@ -98,7 +98,7 @@ fn write_replica<W: Write>(world: &World, replica: u32, writer: &mut W) -> io::R
     write_map(world, replica, writer)
 }
 
-/// Writes the updates of a world, and then each replica from 0 on: what it took, and its map.
+/// Writes the updates of a world, and then, for each replica from 0 on, the updates that it took and its map.
 pub(crate) fn write_world<W: Write>(world: &World, writer: &mut W) -> io::Result<()>
     requires { All (λ u. u.vertex < length world.now.game) world.now.updates }
     ensures { OnOk result ((maps : List (List MeasureValue)) → AreMapsOf world.now maps

@@ -11,11 +11,11 @@ use pg_solver::{Found, Maps};
 use pg_translate::TranslateFault;
 use std::alloc::{AllocError, Global};
 
-/// Has maps of a game and of its dual proposed and certified.
+/// Solves games in one piece: maps of a game and of its dual are proposed and then certified.
 #[derive(Clone, Copy)]
 pub struct InOnePiece;
 
-/// How many propositions of an automaton the controller doesn't set.
+/// Returns the number of propositions of an automaton that the controller doesn't set.
 fn inputs_of(automaton: &Automaton) -> u32 {
     let mut inputs: u32 = 0;
     for a in 0..automaton.propositions() {
@@ -26,7 +26,8 @@ fn inputs_of(automaton: &Automaton) -> u32 {
     inputs
 }
 
-/// The gates of a proposal, the first of which has this literal: each has a literal of its own, and its greater literal first.
+/// Returns the gates of a proposal. The first gate has the literal `first`, and the literal of each later gate is greater by 2. Each gate
+/// has its greater operand first.
 fn gates_of(alloc: Global, first: u32, gates: &[pg_small::Gate]) -> Result<Vec<Gate>, AllocError> {
     let mut list = Vec::new(alloc);
     let mut lhs = first;
@@ -41,7 +42,7 @@ fn gates_of(alloc: Global, first: u32, gates: &[pg_small::Gate]) -> Result<Vec<G
     Ok(list)
 }
 
-/// Proposals for an automaton, as circuits are numbered.
+/// Returns proposals for an automaton, numbered as circuits are.
 fn all_numbered(
     alloc: Global,
     automaton: &Automaton,
@@ -55,7 +56,7 @@ fn all_numbered(
     Ok(proposals)
 }
 
-/// A proposal for an automaton of so many inputs, as circuits are numbered.
+/// Returns a proposal for an automaton with `inputs` inputs, numbered as circuits are.
 fn numbered(alloc: Global, inputs: u32, found: pg_small::Proposal) -> Result<Proposal, AllocError> {
     let latches = u32::try_from(found.latches.len()).unwrap_or(u32::MAX);
     let first = inputs.saturating_add(latches).saturating_add(1);

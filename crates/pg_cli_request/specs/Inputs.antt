@@ -1,4 +1,4 @@
--- What a command is given, and what it prints of that.
+-- The input of a command, and what the command prints for it.
 use Rattle.std.specs.Prelude.{◌≡◌, ◌==◌, ℕ, ◌+◌, ◌<◌, ◌≤◌, ◌⊎◌, List, length, map, nat_eq, slice_index_or, codes, if◌then◌else◌}
 use Rattle.std.specs.Prelude.{Bool, false, true, Option, Some, None}
 use Rattle.std.specs.List.{ends_with, slice_split}
@@ -25,17 +25,17 @@ pair_of commands.Means = Some Means
 pair_of (commands.Verify workers by_place environment) = Some (Verify by_place environment)
 pair_of command = None
 
--- the input of a command: one text, or two that stand each by itself
+-- the input of a command: one text, or two texts, each by itself
 pub data Input : Type 0 where
   Whole : List ℕ → Input
   Apart : Pair → List ℕ → List ℕ → Input
 
--- how many bytes one input has with both texts and a line `--` between
+-- the number of bytes of one input with both texts and a line `--` between them
 abbrev pub joined_length : List ℕ → List ℕ → ℕ
 joined_length first second = length first + ((if ends_with nat_eq first (codes "\n") then 0 else 1) + (3 + length second))
 
--- The input is what these files hold: the first two, each by itself, where the command takes two and they are named; else the first, or
--- standard input where none is named.
+-- The input is the contents of these files: of the first two, each by itself, if the command takes two texts and two files are named;
+-- otherwise of the first, or of standard input if none is named.
 abbrev pub IsRead : (List ℕ → List ℕ → Type 0) → Command → List (List ℕ) → Input → Type 0
 IsRead holds command files (Whole text) =
     ((pair_of command ≡ None) ⊎ (length files < 2)) × holds (slice_index_or files 0 (codes "-")) text
@@ -47,13 +47,13 @@ IsRead holds command files (Apart pair first second) =
 abbrev pub names_in : List ℕ → List (List ℕ)
 names_in outs = map trim (slice_split (λ b. b == 44) outs)
 
--- the text is the same but that the controller sets these outputs, if any are named
+-- the text is the same, except that the controller sets these outputs, if any are named
 abbrev pub HasNamed : Option (List ℕ) → List ℕ → List ℕ → Type 0
 HasNamed None text named = named ≡ text
 HasNamed (Some outs) text named = HasOutputs text (names_in outs) named
 
--- The same input, but that the controller sets these outputs of the automaton, the first text. The texts of `verify` are then parted. The
--- input of `automaton` is a formula, and stays.
+-- The same input, except that the controller sets these outputs of the automaton, which is the first text. The texts of `verify` are then
+-- separated. The input of `automaton` is a formula and stays as it is.
 abbrev pub IsNamed : Option (List ℕ) → Command → Input → Input → Type 0
 IsNamed outs command (Apart pair first second) (Apart pair' named second') =
     (pair' ≡ pair) × HasNamed outs first named × (second' ≡ second)
@@ -64,25 +64,25 @@ IsNamed outs commands.Automaton (Whole text) (Whole named) = named ≡ text
 IsNamed outs command (Whole text) (Whole named) = HasNamed outs text named
 IsNamed outs command given input = ⊥
 
--- what a command prints for two texts that stand each by itself
+-- what a command prints for two texts, each by itself
 abbrev pub PrintsOfPair : Pair → List ℕ → List ℕ → List ℕ → Type 0
 PrintsOfPair Check first second output = IsChecked (AreApart first second) output
 PrintsOfPair Replay first second output = IsReplayed (AreApart first second) output
 PrintsOfPair Means first second output = IsMeant (AreApart first second) output
 PrintsOfPair (Verify by_place environment) first second output = IsLookedAt environment (AreApart first second) by_place output
 
--- in the automaton that `automaton` prints the controller sets the outputs that are named
+-- in the automaton that `automaton` prints, the controller sets the outputs that are named
 abbrev pub IsHeaded : Option (List ℕ) → Command → List ℕ → List ℕ → Type 0
 IsHeaded outs commands.Automaton printed output = HasNamed outs printed output
 IsHeaded outs command printed output = output ≡ printed
 
--- what a command prints for its input, with these outputs; a game is solved by maps of the kind
+-- what a command prints for its input, with these outputs; games are solved by maps of this kind
 abbrev pub PrintsFor : MapKind → Option (List ℕ) → Command → Input → List ℕ → Type 0
 PrintsFor Kind outs command (Whole text) output =
     (printed : List ℕ) × PrintsBy Kind command text printed × IsHeaded outs command printed output
 PrintsFor Kind outs command (Apart pair first second) output = PrintsOfPair pair first second output
 
--- the kind of the maps by which games are solved: closed ones where workers are other programs, else least progress measures
+-- the kind of the maps that solve games: closed maps if the workers are other programs, and otherwise least progress measures
 abbrev pub kind_of : Bool → MapKind
 kind_of false = IsMeasureOf
 kind_of true = IsClosedMapOf

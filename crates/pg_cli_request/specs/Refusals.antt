@@ -1,4 +1,4 @@
--- Why a command line gets no answer. Memory may run out at any point, and each definition allows that.
+-- Why a command line gets no answer. Memory may run out at any point; `IsRefused` and `EndsWork` allow that.
 use Rattle.std.specs.Prelude.{◌≡◌, ℕ, ◌<◌, ◌≤◌, ◌⊎◌, List, [], length, slice_index_or, codes, unwrap_or, is_some}
 use Rattle.std.specs.Prelude.{Bool, true, Option, Some, None}
 use Rattle.pg_hoa.specs.Outputs.{HasOutputs, HasControls, LacksOutput}
@@ -22,7 +22,7 @@ use Rattle.pg_cli_request.specs.declared.pair.Pair.{Pair}
 use Rattle.pg_cli_request.specs.declared.pair.Pair.TheVariants.{Check, Replay, Means, Verify}
 use Rattle.pg_cli_request.specs.Inputs.{Input, Whole, Apart, pair_of, joined_length, names_in, kind_of, IsRead, IsNamed}
 
--- programs are to work for the command, and no port can be listened at for them
+-- programs work for the command, and it can't listen on any port for them
 abbrev pub HasNoPort : Bool → Command → Fault → Type 0
 HasNoPort true command (Cli cli.OutOfMemory) = Unit {0}
 HasNoPort true command (Cli cli.Listen) = 0 < unwrap_or (workers_of command) 0
@@ -30,8 +30,8 @@ HasNoPort apart command fault = ⊥
 
 -- ---- what isn't read
 
--- The file of this name can't be opened or read, and the fault names it; or it is standard input, `-`, and can't be read; or it holds more
--- than one input may have.
+-- The file of this name can't be opened or read, and the fault names it; or it is standard input, `-`, and can't be read; or it has more
+-- bytes than one input may have.
 abbrev pub IsUnread : (List ℕ → List ℕ → Type 0) → List ℕ → Fault → Type 0
 IsUnread holds name (Open file why) = file.now ≡ name
 IsUnread holds name (Read file) = file.now ≡ name
@@ -40,7 +40,7 @@ IsUnread holds name (Cli cli.Read) = name ≡ codes "-"
 IsUnread holds name (Cli cli.InputTooLong) = (text : List ℕ) × holds name text × (268435456 < length text)
 IsUnread holds name fault = ⊥
 
--- these two files hold more together than one input may have
+-- together these two files have more bytes than one input may have
 abbrev pub AreTooLong : (List ℕ → List ℕ → Type 0) → List ℕ → List ℕ → Fault → Type 0
 AreTooLong holds one other (Cli cli.InputTooLong) =
     (first : List ℕ) × (second : List ℕ) × holds one first × holds other second × (268435456 < joined_length first second)
@@ -50,8 +50,8 @@ AreTooLong holds one other fault = ⊥
 abbrev pub AreUnread : (List ℕ → List ℕ → Type 0) → List ℕ → List ℕ → Fault → Type 0
 AreUnread holds one other fault = IsUnread holds one fault ⊎ (IsUnread holds other fault ⊎ AreTooLong holds one other fault)
 
--- The files give no input: the first isn't read, or standard input where none is named; or the command takes two texts, two are named, and
--- these give none.
+-- The files give no input: the first one, or standard input if none is named, isn't read; or the command takes two texts, two files are
+-- named, and these give no input.
 abbrev pub HasNoInput : (List ℕ → List ℕ → Type 0) → Command → List (List ℕ) → Fault → Type 0
 HasNoInput holds command files fault =
     IsUnread holds (slice_index_or files 0 (codes "-")) fault
@@ -60,8 +60,8 @@ HasNoInput holds command files fault =
 
 -- ---- outputs that aren't named
 
--- Outputs can't be named in the text: it spells no automaton; or it says itself, by a header, what the controller sets; or no proposition has
--- this name, which is the first such; or with the header that names them it is too long.
+-- Outputs can't be named in the text: it spells no automaton; or a header in it already says what the controller sets; or no proposition
+-- has this name, which is the first such name; or the text is too long with the header that names them.
 abbrev pub RefusesNames : List ℕ → List ℕ → Fault → Type 0
 RefusesNames outs text (Cli (cli.Hoa fault)) = IsNoAutomaton text fault
 RefusesNames outs text Controlled = HasControls text
@@ -71,19 +71,19 @@ RefusesNames outs text (Cli cli.InputTooLong) = (named : List ℕ) × HasOutputs
 RefusesNames outs text (Cli cli.OutOfMemory) = Unit {0}
 RefusesNames outs text fault = ⊥
 
--- the same, if any are named
+-- outputs are given, and they can't be named in the text
 abbrev pub HasNoNamed : Option (List ℕ) → List ℕ → Fault → Type 0
 HasNoNamed None text fault = ⊥
 HasNoNamed (Some outs) text fault = RefusesNames outs text fault
 
--- no line `--` parts the text
+-- no line `--` separates two texts in this text
 abbrev pub IsUnparted : List ℕ → Fault → Type 0
 IsUnparted text (Cli cli.NoSeparator) = (first second : List ℕ) → ¬ IsParted text first second
 IsUnparted text (Cli cli.OutOfMemory) = Unit {0}
 IsUnparted text fault = ⊥
 
--- The outputs can't be named in the automaton of the input, its first text. The texts of `verify` may be one, which can't be parted. The
--- input of `automaton` is a formula, and has none.
+-- The outputs can't be named in the automaton of the input, which is its first text. The texts of `verify` may be in one input, which can't
+-- be separated. The input of `automaton` is a formula, so no outputs are named in it.
 abbrev pub IsUnnamed : Option (List ℕ) → Command → Input → Fault → Type 0
 IsUnnamed outs command (Apart pair first second) fault = HasNoNamed outs first fault
 IsUnnamed (Some outs) (commands.Verify workers by_place environment) (Whole text) fault =
@@ -93,19 +93,19 @@ IsUnnamed outs command (Whole text) fault = HasNoNamed outs text fault
 
 -- ---- what has no answer
 
--- why a command refuses two texts that stand each by itself
+-- why a command refuses two texts, each by itself
 abbrev pub RefusesPair : Pair → List ℕ → List ℕ → CliFault → Type 0
 RefusesPair Check first second fault = RefusesCheck (AreApart first second) fault
 RefusesPair Replay first second fault = RefusesReplay (AreApart first second) fault
 RefusesPair Means first second fault = RefusesMeans (AreApart first second) fault
 RefusesPair (Verify by_place environment) first second fault = RefusesLook environment IsMeasureOf (AreApart first second) by_place fault
 
--- why a command refuses its input for what it says
+-- why a command refuses its input for its contents
 abbrev pub RefusesInput : MapKind → Command → Input → CliFault → Type 0
 RefusesInput Kind command (Whole text) fault = (meaning_of Kind command text).refuses fault
 RefusesInput Kind command (Apart pair first second) fault = RefusesPair pair first second fault
 
--- memory runs out, or writing fails, or it is refused for this
+-- memory runs out, or writing fails, or the input is refused with this fault
 abbrev pub OrLost : (CliFault → Type 0) → Fault → Type 0
 OrLost Refuses (Cli cli.OutOfMemory) = Unit {0}
 OrLost Refuses (Cli cli.Write) = Unit {0}
@@ -117,28 +117,28 @@ abbrev pub IsUnheaded : Option (List ℕ) → Command → List ℕ → Fault →
 IsUnheaded outs commands.Automaton printed fault = HasNoNamed outs printed fault
 IsUnheaded outs command printed fault = ⊥
 
--- the command makes no answer to its input, or none that has these outputs, or the answer isn't written
+-- the command has no answer to its input, or none in which these outputs can be named, or the answer isn't written
 abbrev pub RefusesFor : MapKind → Option (List ℕ) → Command → Input → Fault → Type 0
 RefusesFor Kind outs command (Whole text) fault =
     OrLost (RefusesInput Kind command (Whole text)) fault
     ⊎ ((printed : List ℕ) × PrintsBy Kind command text printed × IsUnheaded outs command printed fault)
 RefusesFor Kind outs command input fault = OrLost (RefusesInput Kind command input) fault
 
--- the outputs can't be named in this input, or the command has no answer to the input in which they are
+-- the outputs can't be named in this input, or the command has no answer to the input in which they are named
 abbrev pub RefusesGiven : MapKind → Option (List ℕ) → Command → Input → Fault → Type 0
 RefusesGiven Kind outs command given fault =
     IsUnnamed outs command given fault
     ⊎ ((input : Input) × IsNamed outs command given input × RefusesFor Kind outs command input fault)
 
--- There is no answer for this reason: no port can be listened at for the programs, if programs are to work for the command; or the files give
--- no input; or the input that they give is refused.
+-- There is no answer for this reason: programs work for the command, and it can't listen on any port for them; or the files give no input;
+-- or the input that they give is refused.
 abbrev pub IsRefused : (List ℕ → List ℕ → Type 0) → Bool → Command → List (List ℕ) → Option (List ℕ) → Fault → Type 0
 IsRefused holds apart command files outs fault =
     HasNoPort apart command fault
     ⊎ (HasNoInput holds command files fault
     ⊎ ((given : Input) × IsRead holds command files given × RefusesGiven (kind_of apart) outs command given fault))
 
--- why a worker ends that serves at this port
+-- why a worker that serves at this port ends
 abbrev pub EndsWork : ℕ → Fault → Type 0
 EndsWork port (Cli fault) = RefusesWork port fault
 EndsWork port fault = ⊥

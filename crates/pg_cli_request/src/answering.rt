@@ -35,7 +35,7 @@ fn write_bytes<W: Write>(output: &mut W, bytes: &[u8]) -> Result<(), CliFault>
     output.flush().map_err(|_| CliFault::Write)
 }
 
-/// Writes what was made in memory.
+/// Writes an answer that was made in memory.
 fn write_whole<R: Reach + AllocGlobal, W: Write>(
     rt: &R,
     command: Command,
@@ -100,7 +100,7 @@ fn answer_in_memory<R: Reach + AllocGlobal>(
     }
 }
 
-/// An answer in which the controller sets the outputs that are named, if it is an automaton.
+/// Returns the answer. If it is an automaton, the controller sets the outputs that are named in it.
 fn name_answer<'a>(
     alloc: Global,
     command: Command,
@@ -116,8 +116,8 @@ fn name_answer<'a>(
     }
 }
 
-/// Writes the answer to one text. The answers of `measure` and `replay` may be longer than memory is large, so they are written as they are
-/// made; but workers that are programs have ended before what they found is written, however long it takes to be read.
+/// Writes the answer to one text. The answers of `measure` and `replay` may be larger than memory, so they are written as they are made.
+/// But if the workers are programs, they have ended before what they found is written, however long it takes to be read.
 fn write_one<'a, R: Reach + AllocGlobal, W: Write>(
     rt: &R,
     command: Command,
@@ -148,7 +148,7 @@ fn write_one<'a, R: Reach + AllocGlobal, W: Write>(
     }
 }
 
-/// Writes the answer to two texts, that of `replay` as it is made.
+/// Writes the answer to two texts. The answer of `replay` is written as it is made.
 fn write_pair<R: Reach + AllocGlobal, W: Write>(
     rt: &R,
     command: Command,
@@ -214,20 +214,20 @@ fn write_input<'a, R: Reach + AllocGlobal, W: Write>(
     }
 }
 
-/// What goes with a command.
+/// The options of a command.
 #[derive(Clone, Copy)]
 struct Options<'a> {
-    /// Its workers are programs if a path is given.
+    /// The path of the program to start as each worker, if the workers are programs.
     apart: Option<&'a str>,
-    /// The names of outputs.
+    /// The names of the outputs, if `--outs` gives them.
     outs: Option<&'a str>,
-    /// Whether figures are to be printed.
+    /// Whether to print figures.
     stats: bool,
-    /// Whether they are to be printed as JSON.
+    /// Whether to print them as JSON.
     json: bool,
 }
 
-/// The programs that work for a command, if `--apart` names one.
+/// Returns the programs that work for a command, if `--apart` names one.
 fn programs_of<R: Reach + AllocGlobal>(
     rt: &R,
     command: Command,
@@ -242,7 +242,7 @@ fn programs_of<R: Reach + AllocGlobal>(
     }
 }
 
-/// The figures of an input, if they were asked for.
+/// Returns the figures of an input, if they were asked for.
 fn figures_of<R: Reach + AllocGlobal>(
     rt: &R,
     command: Command,
@@ -259,7 +259,7 @@ fn figures_of<R: Reach + AllocGlobal>(
     })
 }
 
-/// What is kept of the input of a command for notes on a fault.
+/// Keeps what notes on a fault need of a command's input.
 fn kept_of<'a>(alloc: Global, command: Command, files: &[&'a str], given: &Given) -> Kept<'a> {
     match given {
         Given::Whole(text) => Kept::of(alloc, command, files, text),
@@ -318,13 +318,13 @@ fn answer<'a, R: Reach + AllocGlobal, T: Texts, W: Write, E: Write>(
     Ok(())
 }
 
-/// Does what a command line asks for: writes the answer of a command to its files, or serves as a worker. What is kept of the input is for
-/// notes on a fault.
+/// Does what a command line asks for: reads the files of a command from `texts` and writes the answer to `output`, or serves as a worker.
+/// Notes and figures go to `errors`. What is kept of the input is for notes on a fault.
 ///
-/// Of a command it returns the first of these faults. `Cli(Listen)`, if its workers are programs and no port can be listened at. `Open`, `Read`,
-/// or for standard input `Cli(Read)`, and `Cli(InputTooLong)`. If outputs are named, `Cli(NoSeparator)`, `Cli(Hoa)`, `Controlled`,
-/// `NoProposition` and `Cli(InputTooLong)`; of `automaton` they come after the others, except `Cli(Write)`. `Cli` with a fault of
-/// `pg_cli::answer`. `Cli(Write)`. `Cli(OutOfMemory)` can come at any point. Of a worker it returns `Cli` with a fault of `pg_cli::work`.
+/// For a command it returns the first of these faults. `Cli(Listen)`, if its workers are programs and it can't listen on any port. `Open`,
+/// `Read`, or for standard input `Cli(Read)`, and `Cli(InputTooLong)`. If outputs are named, `Cli(NoSeparator)`, `Cli(Hoa)`, `Controlled`,
+/// `NoProposition` and `Cli(InputTooLong)`; for `automaton` they come after the others, except `Cli(Write)`. `Cli` with a fault of
+/// `pg_cli::answer`. `Cli(Write)`. `Cli(OutOfMemory)` can come at any point. For a worker it returns `Cli` with a fault of `pg_cli::work`.
 pub fn obey<'a, R: Reach + AllocGlobal, T: Texts, W: Write, E: Write>(
     rt: &R,
     request: &'a Request,

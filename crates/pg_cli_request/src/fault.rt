@@ -16,11 +16,11 @@ pub enum Fault<'a> {
     Open(&'a str, io::Error),
     /// The file of this name can't be read to its end.
     Read(&'a str),
-    /// The outputs are named, and so they are in a header of the automaton.
+    /// `--outs` names the outputs, and so does a header of the automaton.
     Controlled,
     /// `--outs` has this name, and no proposition has it.
     NoProposition(&'a str),
-    /// What is said whatever the files are named.
+    /// A fault that doesn't depend on the names of the files.
     Cli(CliFault),
 }
 
@@ -47,7 +47,7 @@ impl<'a> From<AllocError> for Fault<'a> {
     }
 }
 
-/// The status that the program ends with at a fault: 3 where it is undecided, and else 1.
+/// Returns the exit status of the program for a fault: 3 if the fault is `Undecided`, and otherwise 1.
 pub fn status_of(fault: &Fault) -> u8
     ensures { result ≡ fault_status fault.now }
 {
@@ -57,7 +57,7 @@ pub fn status_of(fault: &Fault) -> u8
     }
 }
 
-/// Writes the fault's line. It takes no memory, and fails only where the writer does.
+/// Writes the fault's line. It allocates no memory, and fails only if the writer does.
 pub fn write_fault<E: Write>(fault: &Fault, errors: &mut E) -> io::Result<()>
     ensures { OnOk result (IsTold fault.now (E.contents errors.old) (E.contents errors.new)) }
 {
@@ -73,7 +73,7 @@ pub fn write_fault<E: Write>(fault: &Fault, errors: &mut E) -> io::Result<()>
     }
 }
 
-/// Writes the fault's line, if it can be written, and answers its status.
+/// Writes the fault's line, if it can be written, and returns the exit status for the fault.
 pub fn tell<E: Write>(errors: &mut E, fault: &Fault) -> u8
     ensures { result ≡ fault_status fault.now }
 {
@@ -81,7 +81,7 @@ pub fn tell<E: Write>(errors: &mut E, fault: &Fault) -> u8
     status_of(fault)
 }
 
-/// Prints what may help with a fault, by what was kept of the input.
+/// Prints notes that may help with a fault, by what was kept of the input.
 fn note<E: Write>(alloc: Global, errors: &mut E, fault: &Fault, kept: &Kept) {
     match fault {
         Fault::Cli(fault) => FaultNotes::of(alloc, kept, fault).tell(errors),
@@ -106,8 +106,8 @@ pub fn end<E: Write>(alloc: Global, errors: &mut E, ended: Result<(), Fault>, ke
     }
 }
 
-/// The status of words that ask for no answer: 0 where the help or the version that they ask for was printed, 2 for words that are no
-/// command line, and else 1, with the line of the fault.
+/// Returns the exit status for words that ask for no answer: 0 if the help or the version that they ask for was printed, 2 if they aren't a
+/// command line, and otherwise 1. With 1 it writes the line of the fault.
 pub fn tell_outcome<E: Write>(errors: &mut E, outcome: Outcome) -> u8
     ensures { result ≡ outcome_status outcome }
 {

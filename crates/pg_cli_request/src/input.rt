@@ -1,4 +1,4 @@
-//! What a command is given.
+//! The input of a command.
 
 ghost use Rattle.std.specs.Prelude.{◌≡◌, ◌≤◌, length, map, nat_eq, codes, IfOk, IfErr};
 ghost use Rattle.pg_cli_request.specs.Inputs.{joined_length, IsRead};
@@ -11,7 +11,7 @@ use crate::texts::Texts;
 use pg_cli::{CliFault, Command, MOST_BYTES};
 use pg_cli_words::STANDARD_INPUT;
 
-/// What stands between two texts in one input.
+/// The line between two texts in one input.
 const SEPARATOR: &[u8] = b"--\n";
 
 /// The input of a command.
@@ -19,12 +19,12 @@ const SEPARATOR: &[u8] = b"--\n";
 pub(crate) enum Given {
     /// One text.
     Whole(Vec<u8>),
-    /// Two texts that stand each by itself.
+    /// Two texts, each by itself.
     Apart(Pair, Vec<u8>, Vec<u8>),
 }
 
 impl Given {
-    /// The first text.
+    /// Returns the first text.
     pub fn first(&self) -> &[u8] {
         match self {
             Given::Whole(text) | Given::Apart(_, text, _) => text,
@@ -32,7 +32,8 @@ impl Given {
     }
 }
 
-/// The texts of two files. Together they may be as long as one input that has both, with a line `--` between.
+/// Reads the texts of two files. Fails with `InputTooLong` if one input with both texts, and a line `--` between them, would have more than
+/// `MOST_BYTES` bytes.
 fn read_both<'a, T: Texts>(
     texts: &T,
     first: &'a str,
@@ -52,7 +53,7 @@ fn read_both<'a, T: Texts>(
     Ok((first, second))
 }
 
-/// The input of a command: what its files hold, or standard input where none is named.
+/// Reads the input of a command: the contents of its files, or of standard input if none is named.
 pub(crate) fn read<'a, T: Texts>(
     texts: &T,
     command: Command,

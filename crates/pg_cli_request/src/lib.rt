@@ -1,5 +1,5 @@
-//! A command line that was read, up to what is written and the status: which texts are its input, the outputs that it names, the answer,
-//! and the line of a fault. Where texts come from, and where an answer goes, is left to the caller.
+//! Handles a command line that was read, up to what is written and the exit status: the texts that are its input, the outputs that it
+//! names, the answer, and the line of a fault. Where texts come from, and where an answer goes, is left to the caller.
 #![tactic(auto)]
 
 mod answering;

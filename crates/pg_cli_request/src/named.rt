@@ -14,10 +14,10 @@ use pg_cli::{CliFault, Command, MOST_BYTES, part_texts};
 use pg_hoa::{OutputsFault, with_outputs};
 use std::alloc::{AllocError, Global};
 
-/// What stands between two names.
+/// The character between two names.
 const COMMA: char = ',';
 
-/// The names between commas, without the white space around them.
+/// Returns the names between commas, without the white space around them.
 fn names_in(alloc: Global, outs: &str) -> Result<Vec<&[u8]>, AllocError>
     ensures { IfOk result (λ names. map (λ name. name.now) names.items ≡ names_in outs.now) }
 {
@@ -28,7 +28,7 @@ fn names_in(alloc: Global, outs: &str) -> Result<Vec<&[u8]>, AllocError>
     Ok(names)
 }
 
-/// The fault for a reason why outputs can't be named.
+/// Returns the fault for a reason why outputs can't be named.
 fn fault_of(fault: OutputsFault, outs: &str) -> Fault<'_>
     ensures { (text : List ℕ) → RefusesOutputs text (names_in outs.now) fault → RefusesNames outs.now text result }
 {
@@ -41,8 +41,8 @@ fn fault_of(fault: OutputsFault, outs: &str) -> Fault<'_>
     }
 }
 
-/// The text of an automaton, with a header more where outputs are named: it says that the controller sets these. It refuses a text that
-/// becomes too long by it.
+/// Returns the text of an automaton. If outputs are named, adds a header which says that the controller sets them. Fails with
+/// `InputTooLong` if the text then has more than `MOST_BYTES` bytes.
 pub(crate) fn name_outputs<'a>(
     alloc: Global,
     outs: Option<&'a str>,
@@ -67,7 +67,7 @@ pub(crate) fn name_outputs<'a>(
     }
 }
 
-/// The same of the first text of `verify` in one input, which is parted for it.
+/// Separates the two texts of `verify` in one input, and names the outputs in the first text, the automaton.
 fn name_parted<'a>(
     alloc: Global,
     by_place: bool,
@@ -93,7 +93,8 @@ fn name_parted<'a>(
     ))
 }
 
-/// The input, but that the controller sets the outputs that are named, if any are.
+/// Returns the input in which the controller sets the outputs that are named, if any are. The input of `automaton` is a formula and stays
+/// as it is.
 pub(crate) fn name_given<'a>(
     alloc: Global,
     command: Command,

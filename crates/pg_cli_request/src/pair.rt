@@ -14,12 +14,12 @@ pub enum Pair {
     Replay,
     /// An automaton and a formula.
     Means,
-    /// An automaton and a circuit, whose inputs and outputs go by their names, or by their places, and which plays the controller, or the
-    /// environment.
+    /// An automaton and a circuit. The circuit's inputs and outputs go by their names, or by their places if `by_place` is set. The circuit
+    /// plays the controller, or the environment if `environment` is set.
     Verify { by_place: bool, environment: bool },
 }
 
-/// The command as one that is given two texts; none where it takes one.
+/// Returns the command as one that is given two texts, or None if it takes one.
 pub(crate) fn pair_of(command: Command) -> Option<Pair>
     ensures { result ≡ pair_of command }
 {

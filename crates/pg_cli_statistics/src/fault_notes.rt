@@ -29,7 +29,7 @@ struct Place<'a> {
     column: usize,
 }
 
-/// What may help.
+/// A hint that may help.
 #[derive(Clone, Copy)]
 enum Hint {
     Said(&'static str),
@@ -53,7 +53,7 @@ pub struct FaultNotes<'a> {
     names: Option<(Named, Vec<Vec<u8>>)>,
 }
 
-/// The line and the column of an offset, where so much of the file is kept.
+/// Returns the line and the column of an offset, or None if the file has no name or isn't kept that far.
 fn place_in(text: Text<'_>, offset: usize) -> Option<Place<'_>> {
     let mut place = Place {
         name: text.name?,
@@ -73,7 +73,7 @@ fn place_in(text: Text<'_>, offset: usize) -> Option<Place<'_>> {
     Some(place)
 }
 
-/// Whether the text of a game is at fault, and not that of its solution; none where that isn't known.
+/// Whether the text of a game is at fault, and not the text of its solution. Returns None if that isn't known.
 fn is_of_game(alloc: Global, game: Text<'_>) -> Option<bool> {
     match read_game(alloc, game.bytes) {
         Err(TextFault::OutOfMemory) => None,
@@ -82,7 +82,8 @@ fn is_of_game(alloc: Global, game: Text<'_>) -> Option<bool> {
     }
 }
 
-/// The offset that a fault names, and whether it is one in the first text.
+/// Returns the offset that a fault names, and whether it is an offset in the first text. Returns None if the fault names none, or if it
+/// isn't known in which text it is.
 fn offset_of(
     alloc: Global,
     command: Command,
@@ -113,7 +114,7 @@ fn offset_of(
     }
 }
 
-/// What may help with a fault that says by itself what it is.
+/// Returns the hint for a fault that says by itself what it is, if there is one.
 fn plain_hint(command: Command, fault: &CliFault) -> Option<Hint> {
     let said = match fault {
         CliFault::NoSeparator => return Some(Hint::TwoTexts(command.name())),
@@ -152,7 +153,7 @@ fn begins_line(game: Text<'_>, offset: usize) -> bool {
     }
 }
 
-/// What may help with a fault of a text.
+/// Returns the hint for a fault of a text, if there is one.
 fn text_hint(
     alloc: Global,
     command: Command,
@@ -192,7 +193,7 @@ impl<'a> FaultNotes<'a> {
         }
     }
 
-    /// The notes on a fault of the input that was kept.
+    /// Returns the notes on a fault of the input that was kept.
     pub fn of(alloc: Global, kept: &'a Kept<'a>, fault: &CliFault) -> FaultNotes<'a> {
         let (Some(command), (Some(first), second)) = (kept.command, kept.texts()) else {
             return FaultNotes::none();
@@ -220,7 +221,7 @@ impl<'a> FaultNotes<'a> {
         notes
     }
 
-    /// The notes on the name of an output that no proposition has.
+    /// Returns the notes on the name of an output that no proposition has.
     pub fn of_name(alloc: Global, kept: &'a Kept<'a>, name: &str) -> FaultNotes<'a> {
         let mut notes = FaultNotes::none();
         let (Some(first), _) = kept.texts() else {
@@ -237,7 +238,7 @@ impl<'a> FaultNotes<'a> {
         notes
     }
 
-    /// The notes on the name of a file that can't be opened.
+    /// Returns the notes on the name of a file that can't be opened.
     pub fn of_file(alloc: Global, name: &str) -> FaultNotes<'a> {
         let mut notes = FaultNotes::none();
         if is_written_formula(alloc, name.as_bytes()) {
@@ -252,7 +253,7 @@ impl<'a> FaultNotes<'a> {
         }
     }
 
-    /// Prints them on the error stream.
+    /// Prints the notes on the error stream.
     pub fn tell<E: Write>(self, errors: &mut E) {
         let _ = self.write(errors);
     }
@@ -300,7 +301,7 @@ impl Hint {
     }
 }
 
-/// Writes the names, with commas between, as `--outs` takes them.
+/// Writes the names, separated by commas, as `--outs` takes them.
 fn write_names<E: Write>(errors: &mut E, names: &[Vec<u8>]) -> io::Result<()> {
     if names.is_empty() {
         return writeln!(errors, "parsolve: note: there are no propositions");
@@ -314,7 +315,7 @@ fn write_names<E: Write>(errors: &mut E, names: &[Vec<u8>]) -> io::Result<()> {
     writeln!(errors)
 }
 
-/// Writes a letter: each proposition, negated where its bit is 0.
+/// Writes a letter: each proposition, negated if its bit is 0.
 fn write_letter<E: Write>(errors: &mut E, letter: u32, names: &[Vec<u8>]) -> io::Result<()> {
     if names.is_empty() {
         return Ok(());

@@ -1,4 +1,5 @@
-//! Figures of a command's work, which `--stats` asks for: counts and seconds. They are counted beside the answer, and have no part in it.
+//! The figures of a command's work that `--stats` asks for: counts and seconds. They are counted alongside the answer, which doesn't depend
+//! on them.
 
 ghost use Rattle.std.specs.Prelude.{◌≡◌};
 
@@ -18,10 +19,10 @@ use std::alloc::{AllocError, Global};
 use std::io::{self, Write};
 use std::time::{Clock, Duration};
 
-/// How many priorities there may be: one more than the greatest.
+/// The number of possible priorities: one more than the greatest.
 const PRIORITIES: usize = 65_536;
 
-/// How much there is of a game.
+/// The size of a game.
 #[derive(Clone, Copy)]
 struct Size {
     vertices: usize,
@@ -29,14 +30,14 @@ struct Size {
     priorities: usize,
 }
 
-/// How many vertices each player wins.
+/// The number of vertices that each player wins.
 #[derive(Clone, Copy)]
 struct Wins {
     even: usize,
     odd: usize,
 }
 
-/// How many latches and gates a circuit has.
+/// The numbers of latches and gates of a circuit.
 #[derive(Clone, Copy)]
 struct Parts {
     latches: usize,
@@ -64,14 +65,14 @@ pub struct Watch {
 }
 
 impl Watch {
-    /// Begins with the first piece.
+    /// Starts the watch. The first piece of work begins.
     pub fn start<R: Clock>(rt: &R) -> Watch {
         Watch {
             last: rt.monotonic().unwrap_or(Duration::ZERO),
         }
     }
 
-    /// How long the piece took that ends here; the next one begins.
+    /// Ends a piece of work, and returns how long it took. The next piece begins.
     pub fn lap<R: Clock>(&mut self, rt: &R) -> Duration {
         let now = rt.monotonic().unwrap_or(self.last);
         let taken = now.saturating_sub(self.last);
@@ -80,17 +81,17 @@ impl Watch {
     }
 }
 
-/// The figures of a command, those that it has.
+/// The figures that a command has.
 #[derive(Drop)]
 pub struct Figures {
-    /// The formula that an automaton is made of, for its products.
+    /// The formula that an automaton is made from, kept to measure its products.
     formula: Option<Vec<u8>>,
-    /// The temporal operators of a formula.
+    /// The number of temporal operators of a formula.
     operators: Option<usize>,
     states: Option<u32>,
-    /// The products of an automaton and a formula.
+    /// The sizes of the products of an automaton and a formula.
     products: Option<ProductSizes>,
-    /// The states of the product of the automaton and a circuit.
+    /// The number of states of the product of the automaton and a circuit.
     product: Option<u32>,
     sides: Option<Sides>,
     size: Option<Size>,
@@ -102,7 +103,7 @@ pub struct Figures {
     watch: Watch,
 }
 
-/// How much there is of a game.
+/// Returns the size of a game.
 fn size_of(alloc: Global, game: &Game) -> Result<Size, AllocError> {
     let mut seen = vec![in alloc; false; PRIORITIES]?;
     let mut size = Size {
@@ -123,13 +124,14 @@ fn size_of(alloc: Global, game: &Game) -> Result<Size, AllocError> {
     Ok(size)
 }
 
-/// How much there is of the game that a text spells.
+/// Returns the size of the game that a text spells. Returns None if it spells none, or if memory runs out.
 fn size_in(alloc: Global, text: &[u8]) -> Option<Size> {
     let game = read_game(alloc, text).ok()?;
     size_of(alloc, &game).ok()
 }
 
-/// The two texts of a command's one text: those before and after the line `--`. Of a command that reads one, that one and nothing.
+/// Returns the two texts in one input of `check`, `means` or `verify`: those before and after the line `--`. For other commands, and if
+/// there is no such line, returns the input and an empty text.
 fn both_texts(command: Command, text: &[u8]) -> (&[u8], &[u8]) {
     if !matches!(
         command,
@@ -140,7 +142,7 @@ fn both_texts(command: Command, text: &[u8]) -> (&[u8], &[u8]) {
     parted(text).unwrap_or((text, &[]))
 }
 
-/// How many vertices each player wins by a printed solution.
+/// Returns how many vertices each player wins by a printed solution.
 fn wins_in(solution: &[u8]) -> Wins {
     let mut wins = Wins { even: 0, odd: 0 };
     for line in solution.split(|byte| *byte == b'\n').skip(1) {
@@ -153,12 +155,13 @@ fn wins_in(solution: &[u8]) -> Wins {
     wins
 }
 
-/// The number that a field of a line writes.
+/// Returns the number in a field of a line.
 fn number_in(field: Option<&[u8]>) -> Option<usize> {
     str::from_utf8(field?).ok()?.parse().ok()
 }
 
-/// How many latches and gates the circuit of a text has, by its first line that begins so: `aag M I L O A`, or `aig` likewise.
+/// Returns the numbers of latches and gates of the circuit in a text. They are in the first line that begins with `aag ` or `aig `, such as
+/// `aag M I L O A`.
 fn parts_in(text: &[u8]) -> Option<Parts> {
     let line = text.split(|byte| *byte == b'\n').find(|line| line.starts_with(b"aag ")
         || line.starts_with(b"aig "))?;
@@ -167,7 +170,7 @@ fn parts_in(text: &[u8]) -> Option<Parts> {
     Some(Parts { latches, gates })
 }
 
-/// How many states the automaton of a text has, by its header.
+/// Returns the number of states of the automaton in a text, by its header.
 fn states_in(text: &[u8]) -> Option<u32> {
     let line = text
         .split(|byte| *byte == b'\n')
@@ -188,7 +191,7 @@ fn is_temporal(node: &FormulaNode) -> bool {
     )
 }
 
-/// How many temporal operators the formula of a text has.
+/// Returns the number of temporal operators of the formula in a text.
 fn operators_in(alloc: Global, text: &[u8]) -> Option<usize> {
     let (_names, formula) = read_formula(alloc, text).ok()?;
     Some(
@@ -200,12 +203,12 @@ fn operators_in(alloc: Global, text: &[u8]) -> Option<usize> {
     )
 }
 
-/// How many measures are top in the text of measures, or a part of it.
+/// Returns the number of measures that are top in the text of measures, or in a part of it.
 fn tops_in(measures: &[u8]) -> usize {
     measures.iter().filter(|byte| **byte == b'T').count()
 }
 
-/// Adds a name, which has no control characters, as a string of JSON. If it isn't UTF-8, each byte over 127 becomes the replacement
+/// Appends a name, which has no control characters, as a JSON string. If the name isn't UTF-8, each byte over 127 becomes the replacement
 /// character.
 fn push_string(array: &mut Vec<u8>, name: &[u8]) -> Result<(), AllocError> {
     let is_text = str::from_utf8(name).is_ok();
@@ -221,7 +224,7 @@ fn push_string(array: &mut Vec<u8>, name: &[u8]) -> Result<(), AllocError> {
     Ok(())
 }
 
-/// The names of the propositions that one side sets.
+/// Returns the names of the propositions that one side sets.
 fn side_of(alloc: Global, automaton: &Automaton, is_controller: bool) -> Result<Side, AllocError> {
     let mut line = Vec::new(alloc);
     let mut array = Vec::from_slice(alloc, b"[")?;
@@ -244,7 +247,7 @@ fn side_of(alloc: Global, automaton: &Automaton, is_controller: bool) -> Result<
     Ok(Side { line, array })
 }
 
-/// The names of the propositions of both sides.
+/// Returns the names of the propositions of both sides.
 fn sides_of(alloc: Global, automaton: &Automaton) -> Result<Sides, AllocError> {
     Ok(Sides {
         inputs: side_of(alloc, automaton, false)?,
@@ -252,7 +255,7 @@ fn sides_of(alloc: Global, automaton: &Automaton) -> Result<Sides, AllocError> {
     })
 }
 
-/// How much there is of the game of an automaton.
+/// Returns the size of the game of an automaton.
 fn size_of_game(alloc: Global, automaton: &Automaton) -> Option<Size> {
     let made = game_of(alloc, automaton).ok()?;
     size_of(alloc, &made.game).ok()
@@ -270,7 +273,7 @@ struct Counted {
     size: Option<Size>,
 }
 
-/// The product of an automaton and the circuit of a text.
+/// Returns the product of an automaton and the circuit in a text, if there is one.
 fn product_in(
     alloc: Global,
     automaton: &Automaton,
@@ -298,7 +301,7 @@ fn product_in(
     product_if_tied(alloc, automaton, &netlist).ok()?
 }
 
-/// The product that a command makes of an automaton and the circuit of a text, if it makes one.
+/// Returns the product that a command makes of an automaton and the circuit in a text, if it makes one.
 fn product_of(
     alloc: Global,
     command: Command,
@@ -320,7 +323,7 @@ fn product_of(
 }
 
 impl Counted {
-    /// What is counted of a command's input, in one text or two: of `verify` the game is that of the product.
+    /// Counts what is in a command's input, of one text or two. For `verify`, the game is the game of the product.
     fn of(alloc: Global, command: Command, first: &[u8], second: &[u8]) -> Counted {
         let mut counted = Counted {
             formula: None,
@@ -351,7 +354,7 @@ impl Counted {
         counted
     }
 
-    /// Counts what the automaton of the first text has.
+    /// Counts what is in the automaton of the first text.
     fn add_automaton(&mut self, alloc: Global, command: Command, first: &[u8], second: &[u8]) {
         let Ok(automaton) = read_automaton(alloc, first) else {
             return;
@@ -370,7 +373,7 @@ impl Counted {
 }
 
 impl Figures {
-    /// What is counted of the text of a command. The watch was started where reading began, and ends that piece here.
+    /// Counts what is in the one text of a command. The watch was started when reading began, and that piece of work ends here.
     pub fn of<R: Clock + AllocGlobal>(
         rt: &R,
         command: Command,
@@ -381,7 +384,7 @@ impl Figures {
         Figures::of_both(rt, command, first, second, watch)
     }
 
-    /// The same of two texts.
+    /// Counts what is in the two texts of a command. The watch was started when reading began, and that piece of work ends here.
     pub fn of_both<R: Clock + AllocGlobal>(
         rt: &R,
         command: Command,
@@ -421,7 +424,7 @@ impl Figures {
         }
     }
 
-    /// What is counted of the answer, which is made and not written yet.
+    /// Counts what is in the answer, which is made but not written yet. The piece of work that makes it ends here.
     pub fn add_answer<R: Clock + AllocGlobal>(&mut self, rt: &R, command: Command, answer: &[u8]) {
         self.answered = self.watch.lap(rt);
         match command {
@@ -442,12 +445,12 @@ impl Figures {
         self.watch.lap(rt);
     }
 
-    /// The answer is written.
+    /// Ends the piece of work that writes the answer.
     pub fn end_writing<R: Clock>(&mut self, rt: &R) {
         self.written = Some(self.watch.lap(rt));
     }
 
-    /// The measures are written, as they were made, and so many of them are top.
+    /// Ends the piece of work that makes the answer. The measures were written as they were made, and `tops` of them are top.
     pub fn end_measures<R: Clock>(&mut self, rt: &R, tops: usize) {
         self.answered = self.watch.lap(rt);
         self.set_tops(tops);
@@ -462,17 +465,17 @@ impl Figures {
         }
     }
 
-    /// Prints them on a line, and the names of the propositions on another one.
+    /// Prints the figures on one line, and the names of the propositions, if they are known, on another.
     pub fn tell<E: Write>(self, errors: &mut E) {
         let _ = self.write(errors);
     }
 
-    /// Prints them as one JSON object on a line.
+    /// Prints the figures as one JSON object on a line.
     pub fn tell_json<E: Write>(self, errors: &mut E) {
         let _ = self.write_json(errors);
     }
 
-    /// The counts by their names.
+    /// Returns the counts with their names.
     fn counts(&self) -> [(&'static str, Option<usize>); 14] {
         let states = self.states.map(|states| states as usize);
         let (vertices, edges, priorities) = match self.size {
@@ -510,7 +513,7 @@ impl Figures {
         ]
     }
 
-    /// How long each piece of work took, by its name.
+    /// Returns how long each piece of work took, with its name.
     fn pieces(&self) -> [(&'static str, Option<Duration>); 3] {
         [
             ("read", Some(self.read)),
@@ -572,7 +575,7 @@ impl Sides {
         writeln!(errors)
     }
 
-    /// Writes them as the last members of an object.
+    /// Writes the names as the last members of an object.
     fn write_json<E: Write>(&self, errors: &mut E) -> io::Result<()> {
         errors.write_all(b", \"inputs\": ")?;
         errors.write_all(self.inputs.array.as_slice())?;
@@ -581,18 +584,21 @@ impl Sides {
     }
 }
 
-/// Writes how many seconds a piece of work took.
+/// Writes the seconds that a piece of work took, with three decimals.
 fn write_seconds<E: Write>(errors: &mut E, taken: Duration) -> io::Result<()> {
     let (seconds, thousandths) = (taken.as_secs(), taken.subsec_millis());
     write!(errors, "{seconds}.{thousandths:03}")
 }
 
-/// Counts the `T` of what is written through it, if it is to count: in measures, those that are top.
+/// A writer that passes on what is written through it. If `tops` is set, it counts the bytes `T`: in the text of measures, those that are
+/// top. It also sees whether the answer is yes.
 #[derive(Drop)]
 pub struct CountedTops<W> {
+    /// The writer that everything goes on to.
     pub inner: W,
+    /// The number of bytes `T` that were written, if they are counted.
     pub tops: Option<usize>,
-    /// Whether what was written first says yes.
+    /// Whether the first bytes that were written say yes; None if none were written yet.
     is_yes: Option<bool>,
 }
 
@@ -600,7 +606,7 @@ pub struct CountedTops<W> {
 const YES: [&[u8]; 4] = [b"WINS\n", b"ACCEPTED\n", b"REFUTES\n", b"SAME\n"];
 
 impl<W> CountedTops<W> {
-    /// What is written through it isn't counted yet.
+    /// Wraps a writer. What is written through it isn't counted yet.
     pub fn new(inner: W) -> CountedTops<W> {
         CountedTops {
             inner,
@@ -614,7 +620,7 @@ impl<W> CountedTops<W> {
         self.is_yes == Some(true)
     }
 
-    /// Sees whether this says yes, if it is the first that is written.
+    /// Notes whether these bytes say yes, if they are the first that are written.
     fn see(&mut self, begun: &[u8])
         ensures { self.new.inner ≡ self.old.inner }
     {

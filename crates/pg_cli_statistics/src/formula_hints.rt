@@ -1,4 +1,4 @@
-//! What may help with a formula that isn't read.
+//! Hints for a formula that can't be read.
 
 use crate::hints::beside;
 
@@ -24,7 +24,7 @@ const OPERATOR: &str =
 
 const END: &str = "the text ends inside a formula";
 
-/// What formulas of other tools have, and what may help.
+/// What formulas of other tools have, and the hints for it.
 const FORMS: [(&[u8], &str); 13] = [
     (b"-->", ARROWS),
     (b"<--", ARROWS),
@@ -44,7 +44,7 @@ const FORMS: [(&[u8], &str); 13] = [
 /// The words that stand between operands.
 const INFIXES: [&[u8]; 6] = [b"U", b"R", b"V", b"W", b"M", b"xor"];
 
-/// Whether this byte may stand in a name.
+/// Whether this byte may be in a name.
 pub(crate) fn is_inner(byte: u8) -> bool {
     byte.is_ascii_alphanumeric() || matches!(byte, b'_' | b'.')
 }
@@ -67,7 +67,7 @@ fn begins_operand(byte: u8) -> bool {
         || matches!(byte, b'_' | b'.' | b'0' | b'1' | b'"' | b'(' | b'!' | b'~')
 }
 
-/// What may help where a formula can't go on.
+/// Returns the hint for a formula that can't go on at this offset, if there is one.
 pub(crate) fn on_formula(text: &[u8], offset: usize) -> Option<&'static str> {
     let before = text.get(..offset)?.trim_ascii_end();
     let rest = text.get(offset..)?;

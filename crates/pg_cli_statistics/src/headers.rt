@@ -1,4 +1,4 @@
-//! What the headers of an automaton say: its propositions, and which limit it is over where it is too large.
+//! Reads the headers of an automaton: its propositions and, if it is too large, the limit that it exceeds.
 
 use pg_hoa_syntax::{Syntax, read_syntax};
 use std::alloc::Global;
@@ -6,44 +6,44 @@ use std::alloc::Global;
 /// The mark after the headers of an automaton.
 const BODY: &[u8] = b"--BODY--";
 
-/// What an automaton without states has after its headers.
+/// The text after the mark in an automaton without states.
 const END: &[u8] = b"\n--END--\n";
 
-/// The headers that count, and how much each may count.
+/// The headers that state a number: the header, its name in a note, and the greatest number that it may state.
 const LIMITS: [(&[u8], &str, u64); 3] = [
     (b"States:", "States", 65_535),
     (b"AP:", "AP", 16),
     (b"Acceptance:", "Acceptance", 4_096),
 ];
 
-/// How many steps an automaton may have: states times letters.
+/// The most steps that an automaton may have: states times letters.
 const MOST_STEPS: u64 = 16_777_216;
 
 /// Why an automaton is too large, as far as its headers show it.
 #[derive(Clone, Copy)]
 pub(crate) enum Limit {
-    /// The header of this name has the number, and the limit is the other one.
+    /// The header with this name states the first number, and the limit is the second.
     Header(&'static str, u64, u64),
-    /// So many states, times so many letters.
+    /// The numbers of states and of letters, whose product is over the limit.
     Steps(u64, u64),
     /// Something else.
     Other,
 }
 
-/// The headers of an automaton, with the mark after them; none if there is no mark.
+/// Returns the headers of an automaton, with the mark after them, or None if there is no mark.
 fn headers(text: &[u8]) -> Option<&[u8]> {
     let place = text.windows(BODY.len()).position(|window| window == BODY)?;
     text.get(..place.saturating_add(BODY.len()))
 }
 
-/// What the headers say; none where memory runs out too.
+/// Returns the contents of the headers. Returns None if they can't be read, or if memory runs out.
 pub(crate) fn read_headers(alloc: Global, text: &[u8]) -> Option<Syntax> {
     let mut stateless = Vec::from_slice(alloc, headers(text)?).ok()?;
     stateless.extend_from_slice(END).ok()?;
     read_syntax(alloc, &stateless).ok()
 }
 
-/// The number at the front, after white space.
+/// Returns the number at the start, after white space.
 fn number_in(text: &[u8]) -> Option<u64> {
     let mut number = None;
     for byte in text.trim_ascii_start() {
@@ -61,7 +61,7 @@ fn number_in(text: &[u8]) -> Option<u64> {
     number
 }
 
-/// The number after the header of this name, with its colon, if white space stands before the header.
+/// Returns the number after the header with this name, which includes the colon, if there is white space before the header.
 fn counted(headers: &[u8], name: &[u8]) -> Option<u64> {
     let mut before = b' ';
     for (place, byte) in headers.iter().enumerate() {
@@ -74,7 +74,7 @@ fn counted(headers: &[u8], name: &[u8]) -> Option<u64> {
     None
 }
 
-/// The limit that an automaton is over which is refused as too large.
+/// Returns the limit that an automaton exceeds. The automaton was refused as too large.
 pub(crate) fn limit_of(text: &[u8]) -> Limit {
     let headers = headers(text).unwrap_or(text);
     for (name, told, most) in LIMITS {
@@ -89,7 +89,7 @@ pub(crate) fn limit_of(text: &[u8]) -> Limit {
     }
 }
 
-/// The same by the states and the propositions, both within their limits.
+/// Returns the limit that an automaton with these states and propositions exceeds. Both numbers are within their own limits.
 fn steps_over(states: u64, propositions: u64) -> Limit {
     let mut letters = 1u64;
     for _ in 0..propositions.min(16) {

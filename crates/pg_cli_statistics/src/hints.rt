@@ -16,7 +16,7 @@ pub(crate) enum Kind {
     Circuit,
 }
 
-/// How no text begins that a command reads, and what such a text is.
+/// Beginnings that no text has which a command reads, and what a text with such a beginning is.
 const FOREIGN: [(&[u8], &str); 9] = [
     (
         b"\x1f\x8b",
@@ -64,7 +64,7 @@ const BEGINNINGS: [(&[u8], Kind); 13] = [
     (b"[]", Kind::Formula),
 ];
 
-/// What games of other tools have, and what rewrites it.
+/// What tokens in games of other tools begin with, and what rewrites them.
 const OF_GAMES: [(&[u8], &str); 5] = [
     (
         b"/*",
@@ -88,13 +88,13 @@ const OF_GAMES: [(&[u8], &str); 5] = [
     ),
 ];
 
-/// The same of automata, where no token begins so.
+/// What tokens in automata of other tools begin with, and what rewrites them. No token that parsolve reads begins so.
 const OF_AUTOMATA: [(&[u8], &str); 1] = [(
     b".",
     "tools/hoa rewrites version 1.1, and headers with dots in their names",
 )];
 
-/// The hint for a text of another kind than the command reads there.
+/// Returns the hint for a text of another kind than the command reads there.
 fn another(seen: Kind) -> &'static str {
     match seen {
         Kind::Game => "the text looks like a game; measure, solve, check and replay read games",
@@ -109,7 +109,7 @@ fn another(seen: Kind) -> &'static str {
     }
 }
 
-/// The kind of a command's first text.
+/// Returns the kind of a command's first text.
 pub(crate) fn first_kind(command: Command) -> Kind {
     match command {
         Command::Automaton => Kind::Formula,
@@ -123,7 +123,7 @@ pub(crate) fn first_kind(command: Command) -> Kind {
     }
 }
 
-/// The kind of the second text of a command that reads two.
+/// Returns the kind of the second text of a command that reads two.
 pub(crate) fn second_kind(command: Command) -> Kind {
     match command {
         Command::Verify { .. } => Kind::Circuit,
@@ -133,7 +133,7 @@ pub(crate) fn second_kind(command: Command) -> Kind {
     }
 }
 
-/// What the table has for the first of its beginnings that the text has.
+/// Returns the entry in the table for the first of its beginnings that the text has.
 pub(crate) fn beside<T: Copy>(table: &[(&[u8], T)], text: &[u8]) -> Option<T> {
     for (beginning, found) in table {
         if text.starts_with(beginning) {
@@ -143,7 +143,7 @@ pub(crate) fn beside<T: Copy>(table: &[(&[u8], T)], text: &[u8]) -> Option<T> {
     None
 }
 
-/// Whether a text begins as a specification in TLSF.
+/// Whether a text begins like a specification in TLSF.
 fn is_tlsf(text: &[u8]) -> bool {
     match text.trim_ascii_start().strip_prefix(b"INFO") {
         Some(rest) => rest.trim_ascii_start().starts_with(b"{"),
@@ -159,12 +159,13 @@ fn is_formula(alloc: Global, text: &[u8]) -> bool {
     }
 }
 
-/// Whether the name of a file is a formula with an operator, and has a byte that no name of a proposition has.
+/// Whether the name of a file is a formula with an operator, and has a byte that can't be in the name of a proposition.
 pub(crate) fn is_written_formula(alloc: Global, name: &[u8]) -> bool {
     name.iter().any(|byte| !is_inner(*byte)) && is_formula(alloc, name)
 }
 
-/// The kind that a text looks like, where this one is wanted. A digit begins games and solutions, and no automaton.
+/// Returns the kind that a text looks like, where a text of the kind `wanted` should be. A digit can begin games and solutions, but no
+/// automaton.
 fn looks_like(alloc: Global, text: &[u8], wanted: Kind) -> Option<Kind> {
     let trimmed = text.trim_ascii_start();
     match (trimmed, wanted) {
@@ -176,7 +177,7 @@ fn looks_like(alloc: Global, text: &[u8], wanted: Kind) -> Option<Kind> {
     }
 }
 
-/// The hint for a text that looks like one of another kind than the one that is wanted.
+/// Returns the hint for a text that looks like another kind than the one that is wanted.
 fn other_than(alloc: Global, text: &[u8], wanted: Kind) -> Option<&'static str> {
     match (looks_like(alloc, text, wanted)?, wanted) {
         // a formula may begin with any word
@@ -191,7 +192,7 @@ fn other_than(alloc: Global, text: &[u8], wanted: Kind) -> Option<&'static str> 
     }
 }
 
-/// The hint for a circuit that ends too early, or whose lines in ASCII don't end with a newline alone.
+/// Returns the hint for a circuit that ends too early, or whose lines in ASCII don't end with a newline alone.
 fn on_circuit(text: &[u8], offset: usize) -> Option<&'static str> {
     let rest = text.get(offset..)?;
     match (text.starts_with(b"aag"), rest) {
@@ -205,7 +206,7 @@ fn on_circuit(text: &[u8], offset: usize) -> Option<&'static str> {
     }
 }
 
-/// The hint for a text that no command reads.
+/// Returns the hint for a text that no command reads.
 fn unreadable(text: &[u8]) -> Option<&'static str> {
     if text.trim_ascii().is_empty() {
         return Some("the text is empty");
@@ -218,7 +219,7 @@ fn unreadable(text: &[u8]) -> Option<&'static str> {
     beside(&FOREIGN, text)
 }
 
-/// The hint for a syntax error at this offset of a text that should be of this kind.
+/// Returns the hint for a syntax error at this offset of a text that should be of the kind `wanted`.
 pub(crate) fn on_syntax(
     alloc: Global,
     text: &[u8],

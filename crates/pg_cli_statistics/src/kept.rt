@@ -1,4 +1,4 @@
-//! What is kept of the input of a command, for notes on its fault.
+//! The part of a command's input that is kept for notes on its fault.
 
 use pg_cli_words::{Command, STANDARD_INPUT};
 use std::alloc::{AllocError, Global};
@@ -6,7 +6,7 @@ use std::alloc::{AllocError, Global};
 /// The most bytes of a file that are kept.
 const MOST_KEPT: usize = 1_048_576;
 
-/// What stands between two texts in one input.
+/// The bytes between two texts in one input: the newline that ends the first text, and the line `--`.
 const SEPARATOR: &[u8] = b"\n--\n";
 
 /// The first bytes of a file, or of standard input, which has no name.
@@ -25,7 +25,7 @@ enum Pieces<'a> {
     Two(Piece<'a>, Piece<'a>),
 }
 
-/// What is kept of the input of a command: nothing before it is read, and nothing where memory runs out.
+/// The part of a command's input that is kept: nothing before it is read, and nothing if memory runs out.
 #[derive(Drop)]
 pub struct Kept<'a> {
     pub(crate) command: Option<Command>,
@@ -41,7 +41,7 @@ pub(crate) struct Text<'a> {
 }
 
 impl<'a> Piece<'a> {
-    /// Keeps the first bytes of a text, which came from the file at this place.
+    /// Keeps the first bytes of a text that came from the file at this place.
     fn of(
         alloc: Global,
         files: &[&'a str],
@@ -56,7 +56,7 @@ impl<'a> Piece<'a> {
         })
     }
 
-    /// The file as one text.
+    /// Returns the file as one text.
     fn text(&self) -> Text<'_> {
         Text {
             name: self.name,
@@ -66,7 +66,7 @@ impl<'a> Piece<'a> {
     }
 }
 
-/// The name of the file at this place, if it isn't standard input.
+/// Returns the name of the file at this place, if it isn't standard input.
 fn name_at<'a>(files: &[&'a str], place: usize) -> Option<&'a str> {
     match files.get(place) {
         Some(name) if *name != STANDARD_INPUT => Some(*name),
@@ -74,7 +74,7 @@ fn name_at<'a>(files: &[&'a str], place: usize) -> Option<&'a str> {
     }
 }
 
-/// The two texts of one input, if a line `--` stands between them.
+/// Returns the two texts of one input, if there is a line `--` between them.
 pub(crate) fn parted(input: &[u8]) -> Option<(&[u8], &[u8])> {
     let place = input
         .windows(SEPARATOR.len())
@@ -97,7 +97,7 @@ impl<'a> Pieces<'a> {
 }
 
 impl<'a> Kept<'a> {
-    /// Nothing.
+    /// Keeps nothing.
     pub fn new() -> Kept<'a> {
         Kept {
             command: None,
@@ -105,7 +105,7 @@ impl<'a> Kept<'a> {
         }
     }
 
-    /// What is kept of one input, which came from the first of these files, or from standard input if there is none.
+    /// Keeps the first bytes of one input, which came from the first of these files, or from standard input if there is none.
     pub fn of(alloc: Global, command: Command, files: &[&'a str], text: &[u8]) -> Kept<'a> {
         Kept {
             command: Some(command),
@@ -116,7 +116,7 @@ impl<'a> Kept<'a> {
         }
     }
 
-    /// What is kept of the texts of these two files.
+    /// Keeps the first bytes of the texts of these two files.
     pub fn of_both(
         alloc: Global,
         command: Command,
@@ -137,8 +137,8 @@ impl<'a> Kept<'a> {
         )
     }
 
-    /// The first text that the command reads, and the second, if it reads two and both are kept. One input that holds both is
-    /// standard input.
+    /// Returns the first text that the command reads, and the second text if the command reads two and both are kept. If one input holds
+    /// both texts, it counts as standard input.
     pub(crate) fn texts(&self) -> (Option<Text<'_>>, Option<Text<'_>>) {
         let input = match &self.pieces {
             Pieces::Nothing => return (None, None),

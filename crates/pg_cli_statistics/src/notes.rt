@@ -15,7 +15,7 @@ const PLAYERS: &str =
 const ALL_CONTROLLED: &str =
     "parsolve: note: --outs names every proposition, so the environment sets none";
 
-/// Which notes there are.
+/// The notes on an automaton that has an answer.
 #[derive(Clone, Copy)]
 pub struct Notes {
     is_uncontrolled: bool,
@@ -32,8 +32,8 @@ fn controls_all(alloc: Global, text: &[u8]) -> bool {
 }
 
 impl Notes {
-    /// The notes on the input of a command, whose outputs may be named by `--outs` in place of its own header: none where it is no
-    /// automaton.
+    /// Returns the notes on the input of a command. `is_by_outs` says whether `--outs` names the outputs in place of the input's own
+    /// header. There are no notes if the input isn't an automaton.
     pub fn of(alloc: Global, command: Command, is_by_outs: bool, text: &[u8]) -> Notes {
         let is_automaton = matches!(
             command,
@@ -51,7 +51,7 @@ impl Notes {
         }
     }
 
-    /// Prints them on the error stream.
+    /// Prints the notes on the error stream.
     pub fn tell<E: Write>(self, errors: &mut E) {
         if self.is_uncontrolled {
             let _ = writeln!(errors, "{UNCONTROLLED}");
@@ -65,7 +65,7 @@ impl Notes {
     }
 }
 
-/// The files of a command that takes two, as its help names them.
+/// Returns the files of a command that takes two, as its help names them.
 fn files_of(command: Command) -> &'static str {
     match command {
         Command::Verify { .. } => "AUTOMATON and CIRCUIT",

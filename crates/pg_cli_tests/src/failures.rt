@@ -5,8 +5,8 @@ use pg_cli::{CliFault, Command, run};
 use std::alloc::Global;
 use std::io::ErrorKind;
 
-/// Whether the command tells that the read with this number failed, and writes nothing. Each read gives a byte, and the last
-/// one finds the end.
+/// Whether the command reports that the read with this number failed, and writes nothing. Each read gives a byte, and the last one finds
+/// the end.
 fn tells_failed_read(alloc: Global, command: Command, input: &[u8], before: usize) -> bool
     requires { HasFewWorkers command }
 {
@@ -20,7 +20,7 @@ fn tells_failed_read(alloc: Global, command: Command, input: &[u8], before: usiz
     matches!(&done, Err(CliFault::Read)) && output.is_empty()
 }
 
-/// Whether the command tells each read that fails, one after the other, and then writes nothing.
+/// Whether the command reports the failure of each read, one after the other, and then writes nothing.
 fn tells_failed_reads(alloc: Global, command: Command, input: &[u8]) -> bool
     requires { HasFewWorkers command }
 {
@@ -32,7 +32,7 @@ fn tells_failed_reads(alloc: Global, command: Command, input: &[u8]) -> bool
     true
 }
 
-/// What the command answers to a writer that takes so many bytes.
+/// Runs the command with a writer that takes `before` bytes.
 fn run_into(alloc: Global, command: Command, input: &[u8], before: usize) -> Result<(), CliFault>
     requires { HasFewWorkers command }
 {
@@ -41,7 +41,7 @@ fn run_into(alloc: Global, command: Command, input: &[u8], before: usize) -> Res
     run(alloc, command, &mut reader, &mut output)
 }
 
-/// Whether the command tells each write that fails, one after the other, and none where all bytes of its answer are taken.
+/// Whether the command reports the failure of each write, one after the other, and none if all bytes of its answer are taken.
 fn tells_failed_writes(alloc: Global, command: Command, input: &[u8], answer: &[u8]) -> bool
     requires { HasFewWorkers command }
 {

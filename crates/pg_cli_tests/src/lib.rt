@@ -1,5 +1,5 @@
-//! Tests of the commands: workers and links, streams that fail, circuits that are proposed, and the words of the command line. What each command
-//! answers, and the lines of faults, are shown by rows of the program.
+//! Tests of the commands: workers and links, streams that fail, circuits that are proposed, and the words of the command line. Rows of the
+//! program show what each command answers, and the lines of faults.
 #![tactic(auto)]
 
 #[cfg(test)]

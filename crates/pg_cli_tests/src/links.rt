@@ -8,16 +8,16 @@ use pg_coord_links_tests::stand_ins::{Broken, Fixed, Told};
 use std::alloc::Global;
 use std::test::Fail;
 
-/// From the vertex with priority 1 Even leaves by the one with priority 2.
+/// Even leaves the vertex with priority 1 through the vertex with priority 2.
 const TWO: &[u8] = b"parity 1;\n0 1 0 0,1;\n1 2 1 0;\n";
 
-/// By single lifts vertex 0 goes through `0,1`, `1,0`, `1,1` to top.
+/// By single lifts, vertex 0 goes through `0,1`, `1,0` and `1,1` to top.
 const ODD: &[u8] = b"parity 1;\n0 1 0 0;\n1 3 0 0;\n";
 
 /// Each player wins somewhere; the one odd priority is 1, and in the dual there are two.
 const THREE: &[u8] = b"parity 2;\n0 0 1 0,1;\n1 1 1 1,2 \"odd\";\n2 2 0 0,2;\n";
 
-/// Its solution.
+/// The solution of `THREE`.
 const WON: &[u8] = b"paritysol 2;\n0 1 1;\n1 1 1;\n2 0 2;\n";
 
 /// The controller sets its proposition in every other step, beginning with the first.
@@ -25,7 +25,7 @@ const TURNS: &[u8] =
     b"HOA: v1 Start: 0 AP: 1 \"g\" controllable-AP: 0 Acceptance: 1 Inf(0) --BODY-- \
 State: 0 [0] 1 {0} State: 1 [!0] 0 {0} --END--";
 
-/// Its circuit: the latch is its own negation, and so is the output.
+/// The circuit for `TURNS`: the next value of the latch is its negation, and so is the output.
 const CIRCUIT: &[u8] = b"REALIZABLE\naag 1 0 1 1 0\n2 3\n3\no0 g\n";
 
 /// A frame of values of width 1: top for the vertices 0 and 1.
@@ -52,7 +52,7 @@ const NONE: &[u8] = &[0, 0, 0, 9, 3, 0, 0, 0, 1, 0, 0, 0, 0];
 /// The report of a worker that has nothing to lift.
 const QUIET: &[u8] = &[0, 0, 0, 3, 5, 1, 0];
 
-/// What a command writes of a text over these links.
+/// Runs a command on a text over these links, and returns the result and the output.
 fn answer<L: Link>(
     alloc: Global,
     command: Command,
@@ -67,7 +67,7 @@ fn answer<L: Link>(
     (done, output)
 }
 
-/// Whether a command answers a text over these links by these bytes.
+/// Whether a command answers a text over these links with these bytes.
 fn answers_over<L: Link>(
     alloc: Global,
     command: Command,
@@ -81,8 +81,7 @@ fn answers_over<L: Link>(
     done.is_ok() && output.as_slice() == expected
 }
 
-/// Whether `solve` leaves the vertex with this identifier undecided over these links: it tells so, writes nothing, and ends
-/// with status 3.
+/// Whether `solve` leaves the vertex with this identifier undecided over these links: it says so, writes nothing, and ends with status 3.
 fn leaves_undecided<L: Link>(alloc: Global, text: &[u8], links: &mut [L], identifier: u32) -> bool
     requires { length links.old ≤ 16 }
 {
@@ -97,7 +96,7 @@ fn leaves_undecided<L: Link>(alloc: Global, text: &[u8], links: &mut [L], identi
     }
 }
 
-/// Two frames, one after the other.
+/// Returns two frames, one after the other.
 fn frames(alloc: Global, first: &[u8], last: &[u8]) -> Result<Vec<Vec<u8>>, Fail> {
     let (first, last) = (
         Vec::from_slice(alloc, first)?,
@@ -106,12 +105,12 @@ fn frames(alloc: Global, first: &[u8], last: &[u8]) -> Result<Vec<Vec<u8>>, Fail
     Ok(vec![in alloc; first, last]?)
 }
 
-/// A link that answers every Go by these values, and that it is quiet.
+/// Returns a link that answers every Go with these values, and with the report that it is quiet.
 fn sends(alloc: Global, values: &[u8]) -> Result<Fixed, Fail> {
     Ok(Fixed::new(alloc, frames(alloc, values, QUIET)?, 1))
 }
 
-/// The second one is to a worker that takes version 1 alone.
+/// The second link is to a worker that takes only version 1.
 #[test]
 fn links_in_memory_may_be_given(rt: HostRuntime) -> Result<(), Fail> {
     let alloc = rt.alloc();
@@ -141,9 +140,9 @@ fn a_link_that_tells_no_values_leaves_the_lifting(rt: HostRuntime) -> Result<(),
     Ok(())
 }
 
-/// The first vertex stays at zero in the game, and goes to top in the dual alone. The second one is told to be at top in the
-/// game, and goes there in the dual. The third one goes to top in the game, and in the dual it is told to be there by the link
-/// that tells the same in each turn; the other one tells nothing in the dual.
+/// The first vertex stays at zero in the game, and goes to top only in the dual. The second vertex is reported to be at top in the game,
+/// and goes there in the dual. The third vertex goes to top in the game. In the dual it is reported to be there by the link that reports
+/// the same in each turn; the other link reports nothing in the dual.
 #[test]
 fn the_least_vertex_where_both_maps_are_top_is_named(rt: HostRuntime) -> Result<(), Fail> {
     let alloc = rt.alloc();
@@ -154,7 +153,7 @@ fn the_least_vertex_where_both_maps_are_top_is_named(rt: HostRuntime) -> Result<
     Ok(())
 }
 
-/// In the dual the width is wrong, so that the link is given up there.
+/// In the dual the width is wrong, so the link is given up there.
 #[test]
 fn a_value_above_the_least_one_still_solves(rt: HostRuntime) -> Result<(), Fail> {
     let alloc = rt.alloc();

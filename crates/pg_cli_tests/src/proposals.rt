@@ -1,4 +1,4 @@
-//! Circuits and automata that are proposed and wrong aren't printed, whether the circuits play the controller or the environment.
+//! Wrong circuits and automata that are proposed aren't printed, whether the circuits play the controller or the environment.
 
 use pg_aiger::Gate;
 use pg_arena::Game;
@@ -9,13 +9,14 @@ use pg_ltl::Formula;
 use pg_solver::{Found, Maps};
 use std::alloc::{AllocError, Global};
 
-/// Solves games in one piece, and proposes circuits and automata that are wrong, and one that is right if it is asked for.
+/// Solves games in one piece, and proposes wrong circuits and automata. If `is_right_too` is set, it also proposes a right circuit, and it
+/// proposes a right automaton instead of the wrong one.
 #[derive(Clone, Copy)]
 struct Proposing {
     is_right_too: bool,
 }
 
-/// A circuit with one output, and perhaps a latch and a gate.
+/// Returns a circuit with one output, and perhaps a latch and a gate.
 fn proposed(
     alloc: Global,
     next: Option<u32>,
@@ -36,7 +37,7 @@ fn proposed(
     Ok(proposal)
 }
 
-/// A gate over two literals.
+/// Returns a gate over two literals.
 fn gate(lhs: u32, rhs0: u32, rhs1: u32) -> Option<Gate> {
     Some(Gate { lhs, rhs0, rhs1 })
 }
@@ -132,11 +133,11 @@ const DELAY: &[u8] = b"HOA: v1\nStart: 0\nAP: 2 \"r\" \"g\"\ncontrollable-AP: 1\
 Acceptance: 2 Fin(1) & Inf(0)\n--BODY--\nState: 0\n[!0&!1] 0 {0}\n[0&!1] 1 {0}\n\
 State: 1\n[!0&1] 0 {0}\n[0&1] 1 {0}\n--END--\n";
 
-/// Its circuit as `synth` prints it.
+/// The circuit for `DELAY`, as `synth` prints it.
 const PLAIN: &[u8] = b"REALIZABLE\naag 8 1 1 1 6\n2\n4 15\n17\n6 5 3\n8 5 2\n10 4 3\n12 4 2\n\
 14 13 9\n16 13 11\ni0 r\no0 g\n";
 
-/// The circuit that is right.
+/// The right circuit for `DELAY`, as it is printed.
 const SMALL: &[u8] = b"REALIZABLE\naag 2 1 1 1 0\n2\n4 2\n4\ni0 r\no0 g\n";
 
 /// A grant has to come exactly in the step before a request.
@@ -147,7 +148,7 @@ State: 1\n[!0&!1] 1 {0}\n[!0&1] 2 {0}\nState: 2\n[0&!1] 1 {0}\n[0&1] 2 {0}\n--EN
 /// A request comes in the step after each step without a grant.
 const COUNTER: &[u8] = b"UNREALIZABLE\naag 2 1 1 1 0\n2\n4 3\n4\ni0 g\no0 r\n";
 
-/// What a command comes to for a text, and what it prints.
+/// Returns the result of a command for a text, and what it prints. Returns None if the text is too long or memory runs out.
 fn answered(
     alloc: Global,
     command: Command,

@@ -5,7 +5,7 @@ use std::alloc::Global;
 use std::io::{self, ErrorKind, Read, Write};
 use std::test::Fail;
 
-/// Gives a byte at a time; the read with this number fails with this kind of error.
+/// Gives one byte at a time. The read after `before` others fails with this kind of error.
 #[derive(Drop)]
 pub(crate) struct Failing<'a> {
     pub(crate) left: &'a [u8],
@@ -25,7 +25,7 @@ impl Read for Failing<'_> {
     }
 }
 
-/// Takes a byte at a time, and fails at one write and at each after it.
+/// Takes one byte at a time, and fails at every write after the first `before`.
 #[derive(Drop)]
 pub(crate) struct Full {
     pub(crate) before: usize,
@@ -45,25 +45,25 @@ impl Write for Full {
     }
 }
 
-/// From the vertex with priority 1 Even leaves by the one with priority 2.
+/// Even leaves the vertex with priority 1 through the vertex with priority 2.
 pub(crate) const TWO: &[u8] = b"parity 1;\n0 1 0 0,1;\n1 2 1 0;\n";
 
-/// The same, and its solution.
+/// `TWO` and its solution.
 pub(crate) const SOLVED: &[u8] =
     b"parity 1;\n0 1 0 0,1;\n1 2 1 0;\n--\nparitysol 1;\n0 0 1;\n1 0;\n";
 
-/// The same, and a script in which the coordinator alone lifts.
+/// `TWO` and a script in which only the coordinator lifts.
 pub(crate) const SCRIPT: &[u8] =
     b"parity 1;\n0 1 0 0,1;\n1 2 1 0;\n--\nworkers 0;\ncentral 0;\ncentral 0;\n";
 
-/// What comes of it.
+/// What `replay` prints for `SCRIPT`.
 pub(crate) const WORLD: &[u8] = b"update 0 0 1;\nreplica 0 taken 0;\n0 1;\n1 0;\n";
 
 /// The controller sets nothing; the only letter leads on without a set.
 pub(crate) const LOOP: &[u8] =
     b"HOA: v1 Start: 0 Acceptance: 1 Inf(0) --BODY-- State: 0 [t] 0 --END--";
 
-/// Its game.
+/// The game of `LOOP`.
 pub(crate) const GAME: &[u8] =
     b"parity 3;\n0 1 1 0 \"dead\";\n1 1 1 3 \"s0\";\n3 0 0 1 \"s0:0\";\n";
 
@@ -72,7 +72,7 @@ pub(crate) const TURNS: &[u8] =
     b"HOA: v1 Start: 0 AP: 1 \"g\" controllable-AP: 0 Acceptance: 1 Inf(0) --BODY-- \
 State: 0 [0] 1 {0} State: 1 [!0] 0 {0} --END--";
 
-/// Its circuit: the latch is its own negation, and so is the output.
+/// The circuit for `TURNS`: the next value of the latch is its negation, and so is the output.
 pub(crate) const CIRCUIT: &[u8] = b"REALIZABLE\naag 1 0 1 1 0\n2 3\n3\no0 g\n";
 
 #[test]
@@ -84,7 +84,7 @@ fn a_text_in_memory_is_answered(rt: HostRuntime) -> Result<(), Fail> {
     Ok(())
 }
 
-/// Whether `measure` answers though the read with this number is interrupted.
+/// Whether `measure` answers even if the read with this number is interrupted.
 fn passes_interrupted_read(alloc: Global, before: usize) -> bool {
     let mut input = Failing {
         left: TWO,
@@ -97,7 +97,7 @@ fn passes_interrupted_read(alloc: Global, before: usize) -> bool {
     done.is_ok() && output.as_slice() == b"0 1;\n1 0;\n".as_slice()
 }
 
-/// The text has 30 bytes, so that the thirty-first read is the one that finds the end.
+/// The text has 30 bytes, so the thirty-first read finds the end.
 #[test]
 fn an_interrupted_read_is_tried_again(rt: HostRuntime) {
     for before in 0..31usize {

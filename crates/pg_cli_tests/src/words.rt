@@ -1,22 +1,23 @@
-//! What words name. More, those that are refused, and the helps are shown by rows of the program; but no row shows how many workers there are.
+//! What the words of a command line name. Rows of the program show more words, the words that are refused, and the help texts, but no row
+//! shows how many workers there are.
 
 use pg_cli::{Command, Invocation, parse_words};
 use pg_cli_words::{Request, parse_request};
 use std::alloc::Global;
 
-/// Whether the words name this command, and no program of the workers.
+/// Whether the words name this command, and no program for the workers.
 fn names(alloc: Global, words: &[&str], command: Command) -> bool {
     let line = parse_words(alloc, words);
     matches!(&line, Ok(Invocation::Run(named, None)) if *named == command)
 }
 
-/// Whether the words name this command, and this program of the workers.
+/// Whether the words name this command, and this program for the workers.
 fn names_apart(alloc: Global, words: &[&str], command: Command, program: &str) -> bool {
     let line = parse_words(alloc, words);
     matches!(&line, Ok(Invocation::Run(named, Some(path))) if *named == command && path.as_str() == program)
 }
 
-/// Whether the words name this port of a worker.
+/// Whether the words name this port for a worker.
 fn names_port(alloc: Global, words: &[&str], port: u16) -> bool {
     let line = parse_words(alloc, words);
     matches!(&line, Ok(Invocation::Work(named)) if *named == port)

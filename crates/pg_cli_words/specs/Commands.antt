@@ -18,7 +18,7 @@ command_name (SynthSmall workers) = codes "synth"
 command_name (SynthCounter workers) = codes "synth"
 command_name (Verify workers by_place environment) = codes "verify"
 
--- how many workers solve for a command; none is asked for where nothing is solved
+-- how many workers solve for a command; None if it solves nothing
 abbrev pub workers_of : Command → Option ℕ
 workers_of (Measure workers) = Some workers
 workers_of (Solve workers) = Some workers

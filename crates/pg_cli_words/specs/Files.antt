@@ -21,15 +21,15 @@ files_of (SynthSmall workers) = 1
 files_of (SynthCounter workers) = 1
 files_of (Verify workers by_place environment) = 2
 
--- the value of this option is the next word
+-- the word is an option whose value is the next word
 abbrev pub takes_value : List ℕ → Bool
 takes_value word = list_any (λ option. bytes_eq word option) (codes "--workers" ∷ codes "--apart" ∷ codes "--outs" ∷ [])
 
--- no option: it begins with no hyphen, or is one
+-- the word isn't an option: it doesn't begin with a hyphen, or it is a hyphen
 abbrev pub is_name : List ℕ → Bool
 is_name word = if starts_with nat_eq word (codes "-") then bytes_eq word (codes "-") else true
 
--- of these words those that are names and no values of options, and the others; `is_value` says whether the first is a value
+-- the words that are names and not values of options, and the other words; `is_value` says whether the first word is a value
 abbrev pub names_in : Bool → List (List ℕ) → List (List ℕ)
 names_in is_value [] = []
 names_in true (word ∷ words) = names_in (takes_value word) words
@@ -42,13 +42,13 @@ others_in true (word ∷ words) = word ∷ others_in (takes_value word) words
 others_in false (word ∷ words) =
     if is_name word then others_in (takes_value word) words else word ∷ others_in (takes_value word) words
 
--- The second word names a command, and behind it stand as many names as the command takes files.
+-- The second word names a command, and after it come as many names as the command takes files.
 pub record HasFiles (words : List (List ℕ)) : Type 0 where
   pub command : Command
   pub named : slice_get words 1 ≡ Some (command_name command)
   pub count : length (names_in false (drop 2 words)) ≡ files_of command
 
--- These names are taken off the words, and the others are left.
+-- `files` are these names, and `others` are the other words.
 abbrev pub TakesFiles : List (List ℕ) → List (List ℕ) → List (List ℕ) → Type 0
 TakesFiles words files others = HasFiles words × (files ≡ names_in false (drop 2 words))
     × (others ≡ take 2 words ++ others_in false (drop 2 words))

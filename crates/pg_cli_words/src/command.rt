@@ -11,7 +11,7 @@ pub enum Command {
     Solve {
         workers: u32,
     },
-    /// Prints the same winners, and any winning strategy.
+    /// Prints who wins at each vertex of a game, and any winning strategy.
     SolveAny {
         workers: u32,
     },
@@ -29,18 +29,19 @@ pub enum Command {
     Synth {
         workers: u32,
     },
-    /// Prints the same with a small circuit.
+    /// Prints what `Synth` prints, but with a small circuit.
     SynthSmall {
         workers: u32,
     },
-    /// Prints the same, and if there is no controller, a circuit that plays the environment and under which no run is accepted.
+    /// Prints what `Synth` prints, and if there is no controller, also a circuit that plays the environment and under which no run is
+    /// accepted.
     SynthCounter {
         workers: u32,
     },
-    /// Prints whether an automaton accepts each run of a circuit, and if it doesn't, the inputs of a run that it
-    /// doesn't accept. It matches inputs and outputs to propositions by name, or by their order.
-    /// If `environment` is set, prints whether a circuit that plays the environment refutes the automaton: whether the automaton accepts no
-    /// run of it, and otherwise what the controller does on a run that the automaton accepts.
+    /// Prints whether an automaton accepts each run of a circuit, and if it doesn't, the inputs of a run that it doesn't accept. It matches
+    /// inputs and outputs to propositions by name, or by their order if `by_place` is set. If `environment` is set, prints whether a
+    /// circuit that plays the environment refutes the automaton: whether the automaton accepts no run of it, and otherwise what the
+    /// controller does on a run that the automaton accepts.
     Verify {
         workers: u32,
         by_place: bool,
@@ -53,8 +54,7 @@ impl Command {
     ghost use Rattle.pg_cli_words.specs.declared.command.Command.{Command};
     ghost use Rattle.pg_cli_words.specs.Commands.{command_name, workers_of};
 
-    /// The commands that have names of their own, in the order of the help. Those that solve games have this number of
-    /// workers.
+    /// Returns the commands that have names of their own, in the order of the help. Those that solve games have this number of workers.
     pub fn all(workers: u32) -> [Command; 9]
         ensures { result ≡ Command.Measure workers ∷ Command.Solve workers ∷ Command.Check ∷ Command.Replay
             ∷ Command.Automaton ∷ Command.Means ∷ Command.Game ∷ Command.Synth workers ∷ Command.Verify workers false false ∷ [] }
@@ -76,7 +76,7 @@ impl Command {
         ]
     }
 
-    /// The word that names the command.
+    /// Returns the word that names the command.
     pub fn name(self) -> &'static str
         ensures { result.now ≡ command_name self }
     {
@@ -94,7 +94,7 @@ impl Command {
         }
     }
 
-    /// The number of workers that solve for the command; None if it solves nothing.
+    /// Returns the number of workers that solve for the command, or None if it solves nothing.
     pub fn workers(self) -> Option<u32>
         ensures { result ≡ workers_of self }
     {
@@ -114,7 +114,7 @@ impl Command {
         }
     }
 
-    /// The command with this name, with this number of workers if it solves games; None if there is no such command.
+    /// Returns the command with this name, or None if there is no such command. If it solves games, it has this number of workers.
     pub fn named(name: &str, workers: u32) -> Option<Command>
         ensures known { IfSome result (λ command. name.now ≡ command_name command) }
         ensures workers { IfSome result (λ command. IfSome (workers_of command) (λ n. n ≡ workers)) }

@@ -13,7 +13,8 @@ pub const STANDARD_INPUT: &str = "-";
 impl Command {
     ghost use Rattle.pg_cli_words.specs.Files.{files_of};
 
-    /// How many files a command takes: a game, a formula or an automaton; or a game or an automaton and what belongs to it.
+    /// Returns the number of files that the command takes: one for a game, a formula or an automaton; two for a game or an automaton and
+    /// the text that belongs to it.
     pub fn files(self) -> usize
         ensures { result ≡ files_of self }
     {
@@ -31,14 +32,14 @@ impl Command {
     }
 }
 
-/// Whether the value of this option is the next word.
+/// Whether this word is an option whose value is the next word.
 fn takes_value(word: &str) -> bool
     ensures { result ≡ takes_value word.now }
 {
     matches!(word, "--workers" | "--apart" | "--outs")
 }
 
-/// Whether the word is no option.
+/// Whether the word isn't an option. `-` isn't one.
 fn is_name(word: &str) -> bool
     ensures { result ≡ is_name word.now }
 {
@@ -52,7 +53,8 @@ pub struct Parted<'a> {
     pub others: Vec<&'a str>,
 }
 
-/// Takes the names off the words behind the command, but for those that are values of options. The others go behind those that are given.
+/// Separates the words after the command into names of files and other words, and appends the other words to `others`. The values of
+/// options aren't names.
 fn part<'a>(
     alloc: Global,
     mut others: Vec<&'a str>,
@@ -76,7 +78,7 @@ fn part<'a>(
     Ok(Parted { files, others })
 }
 
-/// All words.
+/// Returns all words.
 fn texts_of<'a>(alloc: Global, words: &'a [String]) -> Result<Vec<&'a str>, AllocError>
     ensures { IfOk result (λ texts. map (λ w. w.now) texts.items ≡ map string_bytes words.now) }
 {
@@ -87,7 +89,8 @@ fn texts_of<'a>(alloc: Global, words: &'a [String]) -> Result<Vec<&'a str>, Allo
     Ok(texts)
 }
 
-/// The same with the names of the command's files taken off; none where they aren't as many as the command takes.
+/// Separates the names of the command's files from the other words. Returns None if the second word names no command, or if there aren't as
+/// many names as the command takes files.
 fn take_files<'a>(alloc: Global, words: &'a [String]) -> Result<Option<Parted<'a>>, AllocError>
     ensures taken { IfOk result (λ o. IfSome o (λ parted. TakesFiles (map string_bytes words.now)
         (map (λ w. w.now) parted.files.items) (map (λ w. w.now) parted.others.items))) }
@@ -106,7 +109,7 @@ fn take_files<'a>(alloc: Global, words: &'a [String]) -> Result<Option<Parted<'a
     Ok(None)
 }
 
-/// The command of a line that names one file, if the command takes two.
+/// Returns the command of a command line that names one file, if the command takes two. Fails only if memory runs out.
 pub fn lacks_file(alloc: Global, words: &[String]) -> Result<Option<Command>, AllocError> {
     let [_, name, behind @ ..] = words else {
         return Ok(None);
@@ -119,8 +122,9 @@ pub fn lacks_file(alloc: Global, words: &[String]) -> Result<Option<Command>, Al
     Ok(is_lacking.then_some(command))
 }
 
-/// Takes the names of the command's files off the words, which are the program's own name, that of the command, and others. All words
-/// stay where the names aren't as many as the command takes.
+/// Separates the names of the command's files from the other words. The words are the program's own name, the name of the command, and any
+/// others. If there aren't as many names as the command takes files, there are no files, and `others` has all words. Fails only if memory
+/// runs out.
 pub fn part_words<'a>(alloc: Global, words: &'a [String]) -> Result<Parted<'a>, AllocError>
     ensures taken { IfOk result (λ parted. HasFiles (map string_bytes words.now) → TakesFiles (map string_bytes words.now)
         (map (λ w. w.now) parted.files.items) (map (λ w. w.now) parted.others.items)) }

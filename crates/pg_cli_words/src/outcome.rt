@@ -1,4 +1,4 @@
-//! Command lines that ask for no work, and what becomes of them.
+//! Command lines that ask for no work, and their outcomes.
 
 ghost use Rattle.std.specs.Prelude.{map, IfOk};
 ghost use Rattle.pg_cli_words.specs.Words.{AsksFor};
@@ -12,7 +12,7 @@ use clap::error::ErrorKind;
 pub enum Outcome {
     /// They ask for the help or the version, and it was printed.
     Asked,
-    /// They are no command line, and the reason was printed.
+    /// They aren't a command line that is accepted, and the reason was printed, if the error stream could be written.
     Refused,
     /// They ask for the help or the version, and standard output couldn't be written.
     Unwritten,
@@ -20,7 +20,7 @@ pub enum Outcome {
     OutOfMemory,
 }
 
-/// Prints what `clap` says of the words: a fault of the command line, or the help or version that was asked for.
+/// Prints `clap`'s message about the words: a fault of the command line, or the help or version that was asked for. Returns the outcome.
 fn tell(rt: &(impl Print + Eprint), error: &Error) -> Outcome {
     if matches!(error.kind(), ErrorKind::OutOfMemory) {
         return Outcome::OutOfMemory;
@@ -35,8 +35,8 @@ fn tell(rt: &(impl Print + Eprint), error: &Error) -> Outcome {
     }
 }
 
-/// Reads a command line as `parse_request` does. If it asks for no work, this prints the fault on the error stream, or
-/// the help or the version on standard output.
+/// Reads a command line as `parse_request` does. If it asks for no work, this prints the fault on the error stream, or the help or the
+/// version on standard output, and returns the outcome.
 pub fn read_words(
     rt: &(impl Print + Eprint + AllocGlobal),
     words: &[&str],

@@ -14,13 +14,14 @@ use std::alloc::Global;
 pub enum Invocation {
     /// A command, and the program to start as each of its workers; without a program the workers run in this process.
     Run(Command, Option<String>),
-    /// A worker that connects to this port of 127.0.0.1.
+    /// A worker that connects to this port of 127.0.0.1, from 1 to 65535.
     Work(u16),
 }
 
 /// A command line: what it asks for, and the options that leave the answer as it is.
 #[derive(Debug, Drop)]
 pub struct Request {
+    /// What the command line asks for.
     pub line: Invocation,
     /// The names of the outputs, separated by commas, if `--outs` gives them in place of a header.
     pub outs: Option<String>,
@@ -386,7 +387,7 @@ fn port_option<'a>(alloc: Global) -> Arg<'a> {
         .value_parser(clap::value_parser!(u16).range(1..))
 }
 
-/// The command in `clap`'s words, with this help.
+/// Returns the command for `clap`, with this help.
 fn helped<'a>(alloc: Global, command: Command, help: Help) -> Result<Program<'a>, Error> {
     let (name, about, more): (&'a str, &'a str, &'a str) = (command.name(), help.about, help.more);
     let usage: &'a str = help.usage;
@@ -398,7 +399,7 @@ fn helped<'a>(alloc: Global, command: Command, help: Help) -> Result<Program<'a>
     )
 }
 
-/// The same for a command whose game workers can solve.
+/// Returns the command for `clap`, with this help and the options for workers that solve its games.
 fn shared<'a>(alloc: Global, command: Command, help: Help) -> Result<Program<'a>, Error> {
     Ok(
         helped(alloc, command, help)?
@@ -407,12 +408,12 @@ fn shared<'a>(alloc: Global, command: Command, help: Help) -> Result<Program<'a>
     )
 }
 
-/// The same with the options for figures.
+/// Adds the options for figures.
 fn counted<'a>(alloc: Global, program: Program<'a>) -> Result<Program<'a>, Error> {
     Ok(program.arg(stats_option(alloc))?.arg(json_option(alloc))?)
 }
 
-/// The command in `clap`'s words.
+/// Returns the command for `clap`, with its help and its options.
 fn subcommand<'a>(alloc: Global, command: Command) -> Result<Program<'a>, Error> {
     match command {
         Command::Measure { .. } => counted(alloc, shared(alloc, command, MEASURE)?),
@@ -456,7 +457,7 @@ fn subcommand<'a>(alloc: Global, command: Command) -> Result<Program<'a>, Error>
     }
 }
 
-/// The worker in `clap`'s words.
+/// Returns the worker for `clap`.
 fn worker<'a>(alloc: Global) -> Result<Program<'a>, Error> {
     Ok(
         Program::new(alloc, WORKER)
@@ -480,7 +481,7 @@ fn program<'a>(alloc: Global) -> Result<Program<'a>, Error> {
     Ok(program.subcommand(worker(alloc)?)?)
 }
 
-/// The number of workers that the words ask for; 0 if the command solves nothing.
+/// Returns the number of workers that the words ask for, at most 16, or 0 if the command has no option for it.
 fn workers_in(matches: &ArgMatches<'_>) -> u32
     ensures { result ≤ 16 }
 {
@@ -493,7 +494,7 @@ fn workers_in(matches: &ArgMatches<'_>) -> u32
     }
 }
 
-/// Whether the words have this option, which has no value.
+/// Whether the words have this option, which takes no value.
 fn has_flag(matches: &ArgMatches<'_>, option: &str) -> bool {
     match matches.subcommand() {
         Some((_, found)) => found.get_flag(option),
@@ -501,7 +502,7 @@ fn has_flag(matches: &ArgMatches<'_>, option: &str) -> bool {
     }
 }
 
-/// The value of this option, if the words have it.
+/// Returns the value of this option, or None if the words don't have it.
 fn value_in(
     alloc: Global,
     matches: &ArgMatches<'_>,
@@ -516,7 +517,7 @@ fn value_in(
     }
 }
 
-/// The port that the words name.
+/// Returns the port that the words name, or None if they name none from 1 to 65535.
 fn port_in(matches: &ArgMatches<'_>) -> Option<u16>
     ensures { IfSome result IsPort }
 {
@@ -527,7 +528,7 @@ fn port_in(matches: &ArgMatches<'_>) -> Option<u16>
     }
 }
 
-/// What these words ask for; their second word is the name.
+/// Returns what these words ask for, or None if they name no command and no worker. Their second word is `name`.
 fn line_of(alloc: Global, name: &str, matches: &ArgMatches<'_>) -> Result<Option<Invocation>, Error>
     ensures { IfOk result (λ line. IfSome line (IsLineOf name.now)) }
 {

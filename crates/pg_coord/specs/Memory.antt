@@ -12,8 +12,9 @@ use Rattle.pg_worker.specs.Turns.{SessionValue, Turn, IsUpTo, Refuses, IsNoFrame
 use Rattle.pg_worker.specs.Serving.{report_bytes}
 use Rattle.pg_worker.specs.Above.{AreFrames, IsAboveSession}
 
--- A link: the highest version that its session takes, what the session holds, whether it refused a frame since it was started
--- and so drops what is sent, the bytes of the frames that wait, and how many calls were Failed.
+-- A link: the highest version that its session accepts, the session's state, whether it refused a frame since it was
+-- started and so drops the frames that are sent, the bytes of the frames that wait, and the number of calls that were
+-- Failed.
 pub record MemoryValue : Type 0 where
   pub highest : ℕ
   pub held : Option SessionValue
@@ -21,19 +22,19 @@ pub record MemoryValue : Type 0 where
   pub waiting : List ℕ
   pub failures : ℕ
 
--- a link that was just started, with so many failures before
+-- a link that was just started, with this number of failures before
 abbrev pub started_link : ℕ → ℕ → MemoryValue
 started_link highest failures =
     record { highest = highest; held = None; has_refused = false; waiting = []; failures = failures }
 
--- ---- what is sent
+-- ---- frames that are sent
 
--- what waits on once a frame was sent, ahead of the reply to it: nothing after a set-up
+-- the bytes that still wait once a frame was sent, before the reply to it: none after a set-up
 abbrev pub still_waiting : Frame → List ℕ → List ℕ
 still_waiting (frames.Setup s) waiting = []
 still_waiting f waiting = waiting
 
--- the session does its turn, and its reply waits behind what waits on
+-- the session does its turn, and its reply is appended to the bytes that still wait
 pub record Answers (f : Frame) (old new : MemoryValue) : Type 0 where
   pub reply : List ℕ
   pub version : IsUpTo old.highest f
@@ -41,7 +42,7 @@ pub record Answers (f : Frame) (old new : MemoryValue) : Type 0 where
   pub waiting : new.waiting ≡ still_waiting f old.waiting ++ reply
   pub refused : new.has_refused ≡ false
 
--- the session holds nothing any more, and the report of the fault waits behind what waits on
+-- the session holds nothing any more, and the report of the fault is appended to the bytes that still wait
 pub record Reports (why : WorkerFault) (before : List ℕ) (new : MemoryValue) : Type 0 where
   pub held : new.held ≡ None
   pub waiting : new.waiting ≡ before ++ report_bytes why
@@ -52,7 +53,7 @@ abbrev pub RefusesFrame : Frame → MemoryValue → MemoryValue → Type 0
 RefusesFrame f old new =
     (why : WorkerFault) × Refuses old.highest old.held f why × Reports why (still_waiting f old.waiting) new
 
--- the frame is dropped, and the session still holds nothing; a set-up drops what waited all the same
+-- the frame is dropped, and the session still holds nothing; a set-up still drops the frames that waited
 pub record Drops (f : Frame) (old new : MemoryValue) : Type 0 where
   pub held : new.held ≡ None
   pub waiting : new.waiting ≡ still_waiting f old.waiting
@@ -80,7 +81,7 @@ BreaksOff bytes old new = (new ≡ old) ⊎ ((f : Frame) × Spells f bytes × Em
 
 -- ---- the maps that a link is under
 
--- the map is at least what the session holds, and at least the values that wait
+-- the map is at least the map of the session, if it holds one, and at least the values that wait
 pub record IsAboveLink (link : MemoryValue) (h : MapValue) : Type 0 where
   pub session : IfSome link.held (IsAboveSession h)
   pub waiting : AreFrames (λ f. IsAtLeast h.measures (measures_in f)) link.waiting

@@ -19,7 +19,7 @@ use pg_worker::{Session, WorkerFault};
 use std::alloc::Global;
 use std::marker::Model;
 
-/// A worker in the same process, behind encoded frames. Its replies wait here until they are received.
+/// A worker in the same process, driven by encoded frames. Its replies wait here until they are received.
 ///
 /// If the worker refuses a frame, the reply is the report of the fault, if the fault has one; until the link is
 /// restarted it then drops what is sent. A set-up discards the waiting replies, even if the worker refuses the set-up
@@ -30,7 +30,7 @@ pub struct MemoryLink {
     highest: u8,
     session: Session,
     has_refused: bool,
-    /// The frames that wait, behind `next` bytes that were handed over.
+    /// The frames that wait, after `next` bytes that were already received.
     waiting: Vec<u8>,
     next: usize,
     failures: u64,
@@ -55,14 +55,14 @@ impl Model for MemoryLink {
 }
 
 impl MemoryLink {
-    /// A link to a worker that accepts set-ups of both versions of the wire format.
+    /// Makes a link to a worker that accepts set-ups of both versions of the wire format. It never fails.
     pub fn new(alloc: Global) -> Result<MemoryLink, LinkFault>
         ensures { result ≡ Ok (started_link 2 0) }
     {
         MemoryLink::limited(alloc, 2)
     }
 
-    /// A link to a worker that accepts set-ups of versions up to `highest`, which is 1 or 2.
+    /// Makes a link to a worker that accepts set-ups of versions up to `highest`, which is 1 or 2. It never fails.
     pub fn limited(alloc: Global, highest: u8) -> Result<MemoryLink, LinkFault>
         ensures { result ≡ Ok (started_link highest 0) }
     {
@@ -77,7 +77,7 @@ impl MemoryLink {
         })
     }
 
-    /// Drops what waits.
+    /// Drops the frames that wait.
     fn drop_waiting(&mut self)
         ensures { self.new ≡ record self.old { waiting = [] } }
     {
@@ -85,7 +85,7 @@ impl MemoryLink {
         self.next = 0;
     }
 
-    /// Takes away so many bytes of what waits, which are whole frames.
+    /// Removes the first `count` bytes that wait, which are whole frames.
     fn skip(&mut self, count: usize)
         requires within { count ≤ length self.old.waiting }
         requires frames { AreFrames (λ f. Unit {0}) (drop count self.old.waiting) }
@@ -97,7 +97,7 @@ impl MemoryLink {
         }
     }
 
-    /// Drops what waits if the frame is a set-up.
+    /// Drops the frames that wait if this frame is a set-up.
     fn make_way(&mut self, frame: &Frame)
         ensures { self.new ≡ record self.old { waiting = still_waiting frame.now self.old.waiting } }
     {
@@ -106,7 +106,7 @@ impl MemoryLink {
         }
     }
 
-    /// Makes the session anew; what is sent is then dropped, or not.
+    /// Makes the session anew, and sets whether frames that are sent are dropped.
     fn renew(&mut self, has_refused: bool)
         ensures { self.new ≡ record self.old { held = None; has_refused = has_refused } }
     {
@@ -114,7 +114,8 @@ impl MemoryLink {
         self.has_refused = has_refused;
     }
 
-    /// Reports why what was sent is refused, and drops what is sent from then on. Want of memory is no reason, and told.
+    /// Reports why a frame is refused, and drops the frames that are sent from then on. If memory runs out, it isn't a
+    /// refusal: the call fails with `OutOfMemory`, and nothing has changed.
     fn refuse(&mut self, fault: WorkerFault) -> Result<(), LinkFault>
         ensures ok { OnOk result ((fault ≢ WorkerFault.OutOfMemory) × Reports fault self.old.waiting self.new) }
         ensures memory { IfErr result (λ e. (e ≡ LinkFault.OutOfMemory) × (self.new ≡ self.old)) }
@@ -154,8 +155,8 @@ impl MemoryLink {
     ghost use Rattle.pg_worker.specs.Turns.{SpellsRows};
     ghost use Rattle.pg_worker.specs.Mirrors.Sessions.{IsSmall};
 
-    /// Lets the session do the turn of the frame of vertices or of values that the bytes spell, unless it has refused
-    /// one. False where they spell no such frame, and then nothing has changed.
+    /// Lets the session do the turn of the frame of vertices or of values that the bytes spell, unless it has refused one.
+    /// Returns false if they spell no such frame, and then nothing has changed.
     fn take_rows(&mut self, bytes: &[u8]) -> Result<bool, LinkFault>
         ensures small { IfSome self.old.held IsSmall }
         ensures rows { IfOk result (λ taken. IsFalse taken → ¬ (SpellsRows bytes.now)) }
@@ -190,8 +191,8 @@ impl Link for MemoryLink {
 
     ghost told = { λ l. None };
 
-    /// Lets the worker do the turn of the frame; its reply waits then. Never Failed. After `OutOfMemory` either nothing has
-    /// changed, or the worker holds nothing any more.
+    /// Lets the worker do the turn of the frame; its reply then waits. It is never `Failed`. After `OutOfMemory` either
+    /// nothing has changed, or the worker holds nothing any more.
     fn send(&mut self, frame: &[u8]) -> Result<(), LinkFault>
         ensures under { OnOk result ((f : Frame) → Spells f frame.now → (h : MapValue)
             → IsUnderAfter f h (IsAboveLink self.old h) → IsAboveLink self.new h) }
@@ -213,7 +214,7 @@ impl Link for MemoryLink {
         }
     }
 
-    /// Hands over the next frame that waits. Failed where none waits.
+    /// Receives the next frame that waits. It is `Failed` if and only if none waits.
     fn receive(&mut self, frame: &mut Vec<u8>) -> Result<(), LinkFault>
         ensures counted { CountsFailure self.old.failures self.new.failures result }
         ensures under { (h : MapValue) → IsAboveLink self.old h → IsAboveLink self.new h }
@@ -240,7 +241,7 @@ impl Link for MemoryLink {
         Ok(())
     }
 
-    /// Starts the worker anew, and drops what waits. It is never refused.
+    /// Starts the worker anew, and drops the frames that wait. It never fails.
     fn restart(&mut self) -> Result<(), LinkFault>
         ensures ok { IsOk result }
         ensures started { self.new ≡ started_link self.old.highest self.old.failures }

@@ -22,7 +22,7 @@ pub fn put_fault(fault: WorkerFault, out: &mut Vec<u8>) -> Result<(), AllocError
     }
 }
 
-/// The length of the frame that the bytes begin with.
+/// Returns the length of the frame that the bytes begin with.
 pub fn first_len(bytes: &[u8]) -> usize
     requires frames { AreFrames (λ f. Unit {0}) bytes.now }
     requires some { 1 ≤ length bytes.now }

@@ -10,34 +10,34 @@ use std::io::{self, BufReader, ErrorKind, Read, Write};
 use std::net::OpenStream;
 use std::time::{Clock, Instant};
 
-/// How many bytes are read ahead, and how many may wait to be sent.
+/// The number of bytes that may be read ahead, and that may wait to be sent.
 const ROOM: usize = 65_536;
 
-/// The seconds within which the first frame of a program has to be there.
+/// The seconds within which the first reply of a program must arrive.
 const FIRST: u64 = 10;
 
-/// The seconds within which a whole reply has to be there behind the first one, and within which a frame has to be taken.
+/// The seconds within which each further reply must arrive as a whole, and within which a frame must be taken.
 const REPLY: u64 = 60;
 
-/// Whether the bytes are a frame of vertices or of values, behind which another frame has to come before there is a reply.
+/// Whether the bytes are a frame of vertices or of values, after which another frame must come before there is a reply.
 fn is_followed(frame: &[u8]) -> bool {
     matches!(frame.get(4), Some(2 | 3 | 7))
 }
 
-/// A connection to a program. What comes is read ahead; what goes waits for the frame that is answered, so that both go by one
-/// write where there is little of it.
+/// A connection to a program. It reads input ahead. Frames to send wait for the frame that is answered, so that small ones
+/// go together in one write.
 #[derive(Drop)]
 pub struct Connection<C: Clock, S: Read + OpenStream> {
     stream: BufReader<DeadlineStream<C, S>>,
-    /// What is to be sent.
+    /// The bytes that wait to be sent.
     waiting: Vec<u8>,
-    /// Whether the first frame of a reply was asked for, and so the time for all of it runs.
+    /// Whether the first frame of a reply was asked for, so that the time for the whole reply runs.
     is_listening: bool,
     has_replied: bool,
 }
 
 impl<C: Clock + Drop, S: Read + Write + OpenStream + Drop> Connection<C, S> {
-    /// A connection over a stream that blocks. Behind the end, if there is one, nothing is waited for.
+    /// Makes a connection over a stream that blocks. It waits for nothing after `end`, if there is one.
     pub fn new(
         alloc: Global,
         clock: C,
@@ -54,7 +54,7 @@ impl<C: Clock + Drop, S: Read + Write + OpenStream + Drop> Connection<C, S> {
         })
     }
 
-    /// Writes what waits, which has to be taken within 60 seconds.
+    /// Writes the bytes that wait, which must be taken within 60 seconds.
     fn flush(&mut self) -> io::Result<()> {
         if self.waiting.is_empty() {
             return Ok(());
@@ -66,7 +66,7 @@ impl<C: Clock + Drop, S: Read + Write + OpenStream + Drop> Connection<C, S> {
         Ok(())
     }
 
-    /// Sends a frame. One of vertices or of values waits for the next frame, if it is small.
+    /// Sends a frame. A small frame of vertices or of values waits for the next frame.
     pub fn send(&mut self, frame: &[u8]) -> io::Result<()> {
         self.is_listening = false;
         if frame.len() >= ROOM {
@@ -82,8 +82,8 @@ impl<C: Clock + Drop, S: Read + Write + OpenStream + Drop> Connection<C, S> {
         self.flush()
     }
 
-    /// Receives the next frame of a reply. All of the reply has to be there within 60 seconds, and the first frame that
-    /// comes at all within 10.
+    /// Receives the next frame of a reply. The whole reply must arrive within 60 seconds, and the first reply of the
+    /// program within 10.
     pub fn receive(&mut self, frame: &mut Vec<u8>) -> io::Result<()>
         ensures { OnOk result (IsFramedByLength frame.new.items) }
     {

@@ -1,10 +1,10 @@
-//! Streams on which nothing is waited for without end.
+//! Streams on which no read or write waits without end.
 
 use std::io::{self, ErrorKind, Read, Write};
 use std::net::OpenStream;
 use std::time::{Clock, Duration, Instant};
 
-/// A span of time: it ends so long after a point in time, and no later than at another one, if there is one.
+/// A span of time. It ends `limit` after the time `since`, and no later than at `end`, if there is one.
 #[derive(Clone, Copy)]
 pub struct TimeSpan {
     since: Instant,
@@ -13,7 +13,7 @@ pub struct TimeSpan {
 }
 
 impl TimeSpan {
-    /// So many seconds from now on, but no longer than to the end.
+    /// Starts a span of this number of seconds from now on, but no longer than to `end`, if there is one.
     pub fn start<C: Clock>(clock: &C, seconds: u64, end: Option<Instant>) -> io::Result<TimeSpan> {
         Ok(TimeSpan {
             since: Instant::now(clock)?,
@@ -22,7 +22,8 @@ impl TimeSpan {
         })
     }
 
-    /// What is left of it. Fails where nothing is.
+    /// Returns the time that is left of the span. It fails if the clock can't be read, and with `TimedOut` if no time is
+    /// left.
     pub fn left<C: Clock>(&self, clock: &C) -> io::Result<Duration> {
         let now = Instant::now(clock)?;
         let of_limit = self.limit.saturating_sub(now.duration_since(self.since));
@@ -37,7 +38,7 @@ impl TimeSpan {
     }
 }
 
-/// A stream with a span of time: a read or a write that isn't done by its end fails.
+/// A stream with a span of time: a read or a write that isn't done at the end of the span fails.
 #[derive(Drop)]
 pub struct DeadlineStream<C, S> {
     clock: C,
@@ -46,7 +47,8 @@ pub struct DeadlineStream<C, S> {
 }
 
 impl<C: Clock, S> DeadlineStream<C, S> {
-    /// A stream that blocks, and whose time is over. No time that it is given goes beyond the end, if there is one.
+    /// Makes a stream from one that blocks. Its time is over until `start` is called. No time that it is given goes beyond
+    /// `end`, if there is one.
     pub fn new(clock: C, stream: S, end: Option<Instant>) -> io::Result<DeadlineStream<C, S>>
     where
         C: Drop,
@@ -59,7 +61,7 @@ impl<C: Clock, S> DeadlineStream<C, S> {
         })
     }
 
-    /// Gives the reads and the writes from now on so many seconds.
+    /// Gives the reads and the writes from now on this number of seconds.
     pub fn start(&mut self, seconds: u64) -> io::Result<()> {
         self.span = TimeSpan::start(&self.clock, seconds, self.span.end)?;
         Ok(())

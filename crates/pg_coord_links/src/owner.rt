@@ -1,40 +1,40 @@
-//! Whose a connection is, by the tables of the system.
+//! Finds out whose a connection is, from the tables of the system.
 
 use std::alloc::{AllocError, Global};
 use std::fs::{self, Files};
 use std::io::{self, BufRead, BufReader, ErrorKind};
 
-/// How many programs are looked at: the one that was started, and those that it started in turn.
+/// The greatest number of programs that are looked at: the one that was started, and those that it started in turn.
 const MOST_PROGRAMS: usize = 64;
 
-/// How many descriptors of a program are looked at.
+/// The number of descriptors of a program that are looked at.
 const MOST_DESCRIPTORS: u32 = 1024;
 
-/// The other end that the table has for a socket that listens.
+/// The other end in the table of a socket that listens.
 const NOBODY: &str = "00000000:0000";
 
-/// What the table says of a socket.
+/// A socket, as the table describes it.
 #[derive(Clone, Copy)]
 struct Socket {
     /// The user whose program made it.
     user: u32,
-    /// Its number; 0 where no program holds it any more. The table has such a socket for a minute or so, and for as long as the other
-    /// end hasn't taken what was sent.
+    /// Its number; 0 if no program holds it any more. The table has such a socket for about a minute, and for as long as
+    /// the other end hasn't taken what was sent.
     number: u64,
 }
 
-/// The address and the port that a row of the table has for a port of 127.0.0.1.
+/// Returns the address and the port in a row of the table for a port of 127.0.0.1.
 fn end_at(alloc: Global, port: u16) -> Result<String, AllocError> {
     format!(in alloc; "0100007F:{port:04X}")
 }
 
-/// Whether a row of the table is that of the socket between these two ends.
+/// Whether a row of the table describes the socket between these two ends.
 fn is_between(row: &str, local: &str, remote: &str) -> bool {
     let mut fields = row.split_ascii_whitespace().skip(1);
     fields.next() == Some(local) && fields.next() == Some(remote)
 }
 
-/// What a row of the table says of its socket.
+/// Returns the socket that a row of the table describes.
 fn socket_in(row: &str) -> Option<Socket> {
     let mut fields = row.split_ascii_whitespace().skip(7);
     let user = fields.next()?.parse::<u32>().ok()?;
@@ -42,7 +42,7 @@ fn socket_in(row: &str) -> Option<Socket> {
     Some(Socket { user, number })
 }
 
-/// The socket between these two ends, if there is one.
+/// Returns the socket between these two ends, if there is one.
 fn socket_between<R: Files>(
     rt: &R,
     alloc: Global,
@@ -59,14 +59,15 @@ fn socket_between<R: Files>(
     Ok(None)
 }
 
-/// The socket at the port `from` of 127.0.0.1 that is connected to the port `to` there, if there is one.
+/// Returns the socket at the port `from` of 127.0.0.1 that is connected to the port `to` there, if there is one.
 fn socket_of<R: Files>(rt: &R, alloc: Global, from: u16, to: u16) -> io::Result<Option<Socket>> {
     let local = end_at(alloc, from)?;
     let remote = end_at(alloc, to)?;
     socket_between(rt, alloc, local.as_str(), remote.as_str())
 }
 
-/// The user of this program: that of its socket which listens at the port of 127.0.0.1. Fails where the table doesn't tell.
+/// Returns the user of this program: the user of its socket that listens at the port of 127.0.0.1. It fails if the table
+/// doesn't have this socket or can't be read.
 fn own_user<R: Files>(rt: &R, alloc: Global, port: u16) -> io::Result<u32> {
     let local = end_at(alloc, port)?;
     match socket_between(rt, alloc, local.as_str(), NOBODY)? {
@@ -75,14 +76,15 @@ fn own_user<R: Files>(rt: &R, alloc: Global, port: u16) -> io::Result<u32> {
     }
 }
 
-/// Whether the socket at the port `from` of 127.0.0.1 that is connected to the port `to` there is still in the system's table,
-/// and no program holds it. Fails where the table can't be read. No clause says what it answers.
+/// Whether the socket at the port `from` of 127.0.0.1 that is connected to the port `to` there is still in the system's
+/// table, and no program holds it. It fails if the table can't be read. No clause says what it returns.
 pub fn is_orphaned<R: Files>(rt: &R, alloc: Global, from: u16, to: u16) -> io::Result<bool> {
     let socket = socket_of(rt, alloc, from, to)?;
     Ok(matches!(socket, Some(Socket { number: 0, .. })))
 }
 
-/// Whether a program holds the socket of this name; None if the system doesn't show what it holds. Fails only if memory runs out.
+/// Whether a program holds the socket with this name, or None if the system doesn't show what the program holds. It fails
+/// only if memory runs out.
 fn holds<R: Files>(rt: &R, alloc: Global, program: u32, socket: &str) -> io::Result<Option<bool>> {
     for number in 0..MOST_DESCRIPTORS {
         let path = format!(in alloc; "/proc/{program}/fd/{number}")?;
@@ -102,7 +104,8 @@ fn holds<R: Files>(rt: &R, alloc: Global, program: u32, socket: &str) -> io::Res
     Ok(Some(false))
 }
 
-/// What the system says of the programs that a program started and that haven't ended: their numbers, or nothing.
+/// Returns the numbers of the programs that a program started and that haven't ended, as the system lists them, or nothing
+/// if it doesn't.
 fn children_of<R: Files>(rt: &R, alloc: Global, program: u32) -> io::Result<String> {
     let path = format!(in alloc; "/proc/{program}/task/{program}/children")?;
     match fs::open(rt, path.as_str()) {
@@ -121,7 +124,7 @@ fn push_numbers(words: &str, numbers: &mut Vec<u32>) -> Result<(), AllocError> {
     Ok(())
 }
 
-/// Whether the socket of this name is held by the program, or by one that it started, or the system doesn't tell.
+/// Whether the program, or one that it started, holds the socket with this name, or the system doesn't say who holds it.
 fn may_be_held<R: Files>(rt: &R, alloc: Global, program: u32, socket: &str) -> io::Result<bool> {
     let mut programs = vec![in alloc; program]?;
     let mut is_unknown = false;
@@ -140,9 +143,9 @@ fn may_be_held<R: Files>(rt: &R, alloc: Global, program: u32, socket: &str) -> i
     Ok(is_unknown)
 }
 
-/// Whether the socket at the port `from` of 127.0.0.1 that is connected to the port `to` there, at which this program listens, is taken
-/// for one of the program: it is of our user, and held by the program or by one that it started, as far as the system tells who holds
-/// it. Fails where the table of sockets can't be read.
+/// Whether the socket at the port `from` of 127.0.0.1 that is connected to the port `to` there, at which this program
+/// listens, is taken for a socket of the program: our user owns it, and the program or one that it started holds it, as far
+/// as the system says who holds it. It fails if the table of sockets can't be read.
 pub fn is_of_program<R: Files>(
     rt: &R,
     alloc: Global,

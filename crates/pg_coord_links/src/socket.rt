@@ -16,27 +16,27 @@ use std::time::{Duration, Instant};
 /// A link to a worker program, `PATH worker --port P`, which connects to port P of 127.0.0.1. `prepare` or the first
 /// send starts it.
 ///
-/// The contract assumes nothing about the program's answers: the link is neither honest nor does it tell its replies.
-/// No call waits for ever for a program that runs. The program has 10 seconds to connect and 10 for its first reply,
-/// and 60 seconds for each further reply and for taking a frame. If it neither connects in time nor ends, no other one
-/// is started. There is no limit on how long the system takes to start it. If you drop a link without `close`, the
-/// program goes on running.
+/// The contract assumes nothing about the program's answers: the link is not honest, and it doesn't tell its replies. No
+/// call waits for ever for a program that runs. The program has 10 seconds to connect and 10 for its first reply, and 60
+/// seconds for each further reply and for taking a frame. If it neither connects in time nor ends, no other one is started.
+/// There is no limit on how long the system takes to start it. If you drop a link without `close`, the program goes on
+/// running.
 #[derive(Drop)]
 pub struct SocketLink<R: Reach> {
     rt: R,
     path: String,
-    /// Where the next program is to connect; closed once it has.
+    /// The listener that the next program must connect to; closed once it has.
     listener: Option<R::Listener>,
-    /// The next program, if it was started and isn't waited for yet.
+    /// The next program, if it was started and no call has waited for it yet.
     starting: Option<Starting<R>>,
     program: Option<Child<R::Started>>,
     connection: Option<Connection<R, R::Stream>>,
     failures: u64,
     /// Whether a program neither connected in time nor ended.
     is_given_up: bool,
-    /// The time in all that is still to begin, if there is a limit.
+    /// The time in all that hasn't begun yet, if there is a limit.
     time: Option<Duration>,
-    /// When the time in all is over, once it has begun.
+    /// The end of the time in all, once it has begun.
     end: Option<Instant>,
 }
 
@@ -53,7 +53,7 @@ impl<R: Reach> Model for SocketLink<R> {
     } };
 }
 
-/// The fault of a link when the system reports an error or memory runs out.
+/// Returns the fault of a link when the system reports an error or memory runs out.
 fn fault_of(error: &io::Error) -> LinkFault {
     if is_want_of_memory(error) {
         LinkFault::OutOfMemory
@@ -78,9 +78,9 @@ fn kill<P: OpenProcess>(program: &mut Child<P>) {
 }
 
 impl<R: Reach> SocketLink<R> {
-    /// A link that has started no program yet. It listens on 127.0.0.1, at a port that the system picks.
+    /// Makes a link that has started no program yet. It listens on 127.0.0.1, at a port that the system picks.
     ///
-    /// Faults: `Failed` if it can't listen, which no count includes; `OutOfMemory`.
+    /// Faults: `Failed` if it can't listen, which no count includes; `OutOfMemory` if memory runs out.
     pub fn listen(rt: R, alloc: Global, path: &str) -> Result<SocketLink<R>, LinkFault>
         ensures { IfOk result (λ link. link ≡ idle_link) }
     {
@@ -102,7 +102,7 @@ impl<R: Reach> SocketLink<R> {
         }
     }
 
-    /// Limits the link to this many seconds in all, from when it first starts a program. After that it starts no
+    /// Limits the link to this number of seconds in all, from when it first starts a program. After that it starts no
     /// program, waits for nothing and sends nothing that waits: calls fail at once with `Failed`.
     pub fn limit(&mut self, seconds: u64)
         ensures { self.new ≡ self.old }
@@ -117,7 +117,7 @@ impl<R: Reach> SocketLink<R> {
         self.program.is_some()
     }
 
-    /// The listener that no program has connected to yet, or a new one.
+    /// Returns the listener that no program has connected to yet, or a new one.
     fn take_listener(&mut self) -> io::Result<R::Listener>
         ensures { self.new ≡ self.old }
     {
@@ -139,7 +139,7 @@ impl<R: Reach> SocketLink<R> {
         Ok(())
     }
 
-    /// Starts a program, whose connection isn't waited for.
+    /// Starts a program, without waiting for its connection.
     fn launch(&mut self) -> io::Result<Starting<R>>
         ensures { self.new ≡ self.old }
     {
@@ -155,7 +155,7 @@ impl<R: Reach> SocketLink<R> {
         Starting::new(&self.rt, alloc, self.path.as_str(), listener, self.end)
     }
 
-    /// Starts the program, if that isn't done yet, and waits for its connection.
+    /// Starts the program, if that hasn't been done yet, and waits for its connection.
     fn start(&mut self) -> io::Result<()>
         ensures ok { OnOk result (self.new ≡ record self.old { has_program = true; is_connected = true }) }
         ensures failures { self.new.failures ≡ self.old.failures }
@@ -210,7 +210,7 @@ impl<R: Reach> SocketLink<R> {
         Err(LinkFault::Failed)
     }
 
-    /// What a call answers that ended so; after an error there is no connection.
+    /// Returns the answer of a call that ended with this result. After an error there is no connection.
     fn conclude(&mut self, ended: io::Result<()>) -> Result<(), LinkFault>
         ensures failures { self.new.failures ≡ count_after result self.old.failures }
         ensures program { self.new.has_program ≡ self.old.has_program }
@@ -242,16 +242,16 @@ impl<R: Reach> Link for SocketLink<R> {
 
     ghost told = { λ _. None };
 
-    /// Starts the program, if there is none, and doesn't wait for it: so the programs of several links start side by side. Where
-    /// it can't be started, the first send tells.
+    /// Starts the program, if there is none, and doesn't wait for it, so that the programs of several links start side by
+    /// side. If it can't be started, the first send reports that.
     fn prepare(&mut self) {
         if self.program.is_none() && self.starting.is_none() {
             self.starting = self.launch().ok();
         }
     }
 
-    /// Sends a frame; where there is no program, one is started first. Failed where the program can't be started, doesn't
-    /// connect or doesn't take the frame, and where there is a program without a connection.
+    /// Sends a frame. If there is no program, it starts one first. It is `Failed` if the program can't be started, doesn't
+    /// connect or doesn't take the frame, and if there is a program without a connection.
     fn send(&mut self, frame: &[u8]) -> Result<(), LinkFault>
         ensures failures { self.new.failures ≡ count_after result self.old.failures }
         ensures ok { OnOk result ((self.new.has_program ≡ true) × (self.new.is_connected ≡ true)) }
@@ -269,8 +269,8 @@ impl<R: Reach> Link for SocketLink<R> {
         self.conclude(sent)
     }
 
-    /// Receives four bytes and as many as they say, or these four alone where no frame has such a length. Failed without a
-    /// connection, where the input ends or can't be read, and where the reply takes too long.
+    /// Receives four bytes and as many as they say, or these four alone if no frame has such a length. It is `Failed` if
+    /// there is no connection, if the input ends or can't be read, and if the reply takes too long.
     fn receive(&mut self, frame: &mut Vec<u8>) -> Result<(), LinkFault>
         ensures failures { self.new.failures ≡ count_after result self.old.failures }
         ensures program { self.new.has_program ≡ self.old.has_program }
@@ -286,8 +286,8 @@ impl<R: Reach> Link for SocketLink<R> {
         self.conclude(received)
     }
 
-    /// Closes the connection, kills the program and waits for it, if there is one; then starts it anew. Failed where it can't
-    /// be started and where it doesn't connect.
+    /// Closes the connection, kills the program and waits for it, if there is one; then starts it anew. It is `Failed` if
+    /// the program can't be started or doesn't connect.
     fn restart(&mut self) -> Result<(), LinkFault>
         ensures failures { self.new.failures ≡ count_after result self.old.failures }
         ensures ok { OnOk result ((self.new.has_program ≡ true) × (self.new.is_connected ≡ true)) }

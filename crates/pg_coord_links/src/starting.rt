@@ -11,18 +11,19 @@ use std::process::{Child, Command, Processes, Stdio};
 use std::thread;
 use std::time::{Clock, Duration, Instant};
 
-/// What starts programs, connects to them, reads the tables in which the system keeps connections, and tells the time.
+/// The services of the system that links need: they start programs, connect to them, read the tables in which the system
+/// keeps connections, and give the time.
 pub trait Reach: Net + Processes + Files + Clock + Clone + Drop {}
 
 impl<R: Net + Processes + Files + Clock + Clone + Drop> Reach for R {}
 
-/// The seconds within which a program has to connect.
+/// The seconds within which a program must connect.
 const CONNECT: u64 = 10;
 
 /// The milliseconds between two looks for a connection.
 const LOOK: u64 = 1;
 
-/// The bit of a file's mode by which it is started as its owner.
+/// The bit of a file's mode with which the file is started as its owner.
 const SET_USER: u32 = 0o4000;
 
 /// Whether the error says that memory was refused to this program, and not that a call of the system failed.
@@ -37,7 +38,7 @@ pub fn listen_anywhere<R: Reach>(rt: &R) -> io::Result<R::Listener> {
     Ok(listener)
 }
 
-/// The command `PATH worker --port P`.
+/// Makes the command `PATH worker --port P`.
 fn worker_command(alloc: Global, path: &str, port: u16) -> io::Result<Command> {
     let port = port.to_string(alloc)?;
     let mut command = Command::new(alloc, path)?;
@@ -45,7 +46,7 @@ fn worker_command(alloc: Global, path: &str, port: u16) -> io::Result<Command> {
     Ok(command)
 }
 
-/// Starts `PATH worker --port P`. It reads nothing, and what it prints goes nowhere.
+/// Starts `PATH worker --port P`. It gets no input, and its output is dropped.
 fn spawn<R: Reach>(rt: &R, alloc: Global, path: &str, port: u16) -> io::Result<Child<R::Started>> {
     let mut command = worker_command(alloc, path, port)?;
     command
@@ -55,8 +56,8 @@ fn spawn<R: Reach>(rt: &R, alloc: Global, path: &str, port: u16) -> io::Result<C
     command.spawn(rt)
 }
 
-/// Whether a connection from this address to the port is to be dropped: another program made it, as far as the tables of the
-/// system tell. Fails if memory runs out or the table of sockets can't be read.
+/// Whether a connection from this address to the port must be dropped because another program made it, as far as the tables
+/// of the system say. It fails if memory runs out or the table of sockets can't be read.
 fn is_foreign<R: Reach>(
     rt: &R,
     alloc: Global,
@@ -71,7 +72,8 @@ fn is_foreign<R: Reach>(
     Ok(!is_own)
 }
 
-/// Whether the file has the bit by which it is started as its owner. A path without a slash is searched for, and isn't looked at.
+/// Whether the file has the bit with which it is started as its owner. A path without a slash is searched for, and isn't
+/// looked at.
 fn is_started_as_its_owner<R: Reach>(rt: &R, path: &str) -> bool {
     match fs::metadata(rt, path) {
         Ok(file) => path.contains('/') && file.mode() & SET_USER != 0,
@@ -79,7 +81,7 @@ fn is_started_as_its_owner<R: Reach>(rt: &R, path: &str) -> bool {
     }
 }
 
-/// A program that was started, and the port that it is to connect to in its time.
+/// A program that was started, and the port that it must connect to in its time.
 #[derive(Drop)]
 pub struct Starting<R: Reach> {
     pub program: Child<R::Started>,
@@ -88,8 +90,8 @@ pub struct Starting<R: Reach> {
 }
 
 impl<R: Reach> Starting<R> {
-    /// Starts `PATH worker --port P`, which has 10 seconds to connect, but no longer than to the end, if there is one. Refuses a file
-    /// that is started as its owner, since such a program couldn't be killed.
+    /// Starts `PATH worker --port P`, which has 10 seconds to connect, but no longer than to `end`, if there is one. It
+    /// refuses a file that is started as its owner, with `PermissionDenied`, since such a program couldn't be killed.
     pub fn new(
         rt: &R,
         alloc: Global,
@@ -110,8 +112,8 @@ impl<R: Reach> Starting<R> {
         })
     }
 
-    /// Waits for the connection of the program, and drops those of others. Fails where the program ends first, where the table of
-    /// sockets can't be read, and with `TimedOut` where it takes too long.
+    /// Waits for the connection of the program, and drops those of others. It fails if the program ends first, if the table
+    /// of sockets can't be read, and with `TimedOut` if the program takes too long.
     pub fn accept(&mut self, rt: &R, alloc: Global) -> io::Result<R::Stream> {
         let port = self.listener.local_addr()?.port();
         for _ in 0..u64::MAX {

@@ -1,5 +1,5 @@
-//! Links that fail, and links that give fixed replies: what a coordinator has to bear. Promised is of `Told` what it tells, and of
-//! `Broken` that each call fails; of the others nothing.
+//! Links that fail, and links that give fixed replies: cases that a coordinator must bear. The contracts promise of `Told`
+//! the frames that it tells, and of `Broken` that each call fails; of the others they promise nothing.
 
 ghost use Rattle.std.specs.Prelude.{⊤, ◌≡◌, ◌≢◌, ◌++◌, Some, None, Err, map, drop, replicate};
 ghost use Rattle.pg_coord_partition.specs.Links.{CountsFailure};
@@ -11,7 +11,7 @@ use std::alloc::Global;
 /// The bytes of the report that refuses a set-up of version 2.
 const REFUSAL: [u8; 7] = [0, 0, 0, 3, 5, 2, 18];
 
-/// The answer of a call, which is counted where it is Failed.
+/// Returns the answer of a call, and counts it if it is Failed.
 fn counted(answer: Result<(), LinkFault>, failures: &mut u64) -> Result<(), LinkFault>
     ensures answer { result ≡ answer }
     ensures counted { CountsFailure failures.old failures.new result }
@@ -30,7 +30,7 @@ fn is_second_setup(frame: &Frame) -> bool {
     }
 }
 
-/// Hands over the frames of its replies in order, whatever it is sent; ahead of them it refuses each set-up of version 2.
+/// Hands over the frames of its replies in order, whatever it is sent; before them it refuses each set-up of version 2.
 #[derive(Drop)]
 pub struct Told {
     alloc: Global,
@@ -41,7 +41,7 @@ pub struct Told {
 }
 
 impl Told {
-    /// A link that hands over these frames.
+    /// Makes a link that hands over these frames.
     pub fn new(alloc: Global, replies: Vec<Vec<u8>>) -> Told
         ensures replies { result.replies.items ≡ replies.items }
         ensures next { result.next ≡ 0 }
@@ -116,12 +116,12 @@ pub struct Broken {
 }
 
 impl Broken {
-    /// A link whose every call is Failed.
+    /// Makes a link whose every call is Failed.
     pub fn new() -> Broken {
         Broken { failures: 0 }
     }
 
-    /// Fails, and counts it.
+    /// Fails, and counts the failure.
     fn fail(&mut self) -> Result<(), LinkFault>
         ensures failed { result ≡ Err LinkFault.Failed }
         ensures counted { CountsFailure self.old.failures self.new.failures result }
@@ -163,12 +163,12 @@ impl Link for Broken {
     }
 }
 
-/// Answers every Go by the same frames, and refuses set-ups of version 2.
+/// Answers every Go with the same frames, and refuses set-ups of version 2.
 #[derive(Drop)]
 pub struct Fixed {
     alloc: Global,
     frames: Vec<Vec<u8>>,
-    /// How often the frames are handed over in answer to a Go.
+    /// The number of times that the frames are handed over in answer to a Go.
     times: usize,
     refusing: bool,
     left: usize,
@@ -177,7 +177,7 @@ pub struct Fixed {
 }
 
 impl Fixed {
-    /// A link that answers every Go by these frames, one after the other, so many times.
+    /// Makes a link that answers every Go with these frames, one after another, `times` times.
     pub fn new(alloc: Global, frames: Vec<Vec<u8>>, times: usize) -> Fixed {
         Fixed {
             alloc,
@@ -190,7 +190,7 @@ impl Fixed {
         }
     }
 
-    /// Takes a frame: after a Go the answer is to be handed over, and after a set-up of version 2 the refusal.
+    /// Takes a frame: a Go makes the answer due, and a set-up of version 2 the refusal.
     fn take(&mut self, frame: &[u8]) -> Result<(), LinkFault>
         ensures kept { self.new.failures ≡ self.old.failures }
         ensures not_failed { result ≢ Err LinkFault.Failed }
@@ -210,7 +210,7 @@ impl Fixed {
         }
     }
 
-    /// The next frame of the answer, if one is left.
+    /// Returns the position of the next frame of the answer, if one is left.
     fn next_frame(&mut self) -> Option<usize>
         ensures { self.new.failures ≡ self.old.failures }
     {
@@ -226,7 +226,7 @@ impl Fixed {
         Some(at)
     }
 
-    /// Appends the refusal, if a set-up is to be refused, or else the next frame of the answer.
+    /// Appends the refusal, if one is due, and otherwise the next frame of the answer.
     fn hand_over(&mut self, frame: &mut Vec<u8>) -> Result<(), LinkFault>
         ensures { self.new.failures ≡ self.old.failures }
     {
@@ -270,17 +270,17 @@ impl Link for Fixed {
     }
 }
 
-/// Another link, of which one call of `send` or `receive` is Failed.
+/// Wraps a link so that one call of `send` or `receive` is Failed.
 #[derive(Drop)]
 pub struct FailsOnce<L: Link + Drop> {
     link: L,
-    /// How many calls are left until the one that fails; none once it failed.
+    /// The number of calls that are left until the one that fails; none once it failed.
     left: Option<u64>,
     failures: u64,
 }
 
 impl<L: Link + Drop> FailsOnce<L> {
-    /// The link, whose n-th call from 0 on is Failed.
+    /// Wraps the link so that its n-th call, from 0 on, is Failed.
     pub fn new(link: L, n: u64) -> FailsOnce<L> {
         FailsOnce {
             link,
@@ -294,7 +294,7 @@ impl<L: Link + Drop> FailsOnce<L> {
         self.left.is_none()
     }
 
-    /// Counts a call down; true for the one that fails.
+    /// Counts a call down, and returns true for the one that fails.
     fn fails(&mut self) -> bool
         ensures { self.new.failures ≡ self.old.failures }
     {

@@ -1,4 +1,4 @@
--- What frames tell of a game: lines of its vertices, and measures that are joined to a map.
+-- The contents of frames: lines of a game's vertices, and measures that are joined with a map.
 use Rattle.std.proofs.Common.{zero, suc}
 use Rattle.std.specs.Prelude.{◌≡◌, ℕ, ◌==◌, List, [], length, All, if◌then◌else◌}
 use Rattle.pg_arena.specs.declared.player.Player.{Player}
@@ -15,12 +15,12 @@ use Rattle.pg_wire.specs.Measured.{Measured, told_values, told_sparse}
 
 -- ---- vertices
 
--- the number of a player
+-- the player with this number
 abbrev pub player : ℕ → Player
 player zero = Even
 player (suc n) = Odd
 
--- what a frame tells of a vertex
+-- a vertex's line as it is in a frame
 abbrev pub told_line : VertexLine → Line
 told_line l = line_of l.priority (player l.owner) l.successors
 

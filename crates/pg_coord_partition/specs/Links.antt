@@ -1,4 +1,4 @@
--- Links to workers: which maps a link is under, and the replies that it tells ahead.
+-- Links to workers: the maps that a link is under, and the replies that it tells in advance.
 use Rattle.std.specs.Prelude.{◌≡◌, ◌≢◌, ℕ, ◌^◌, ◌-◌, ◌<◌, ◌⊎◌, ◌==◌, if◌then◌else◌, List, [], ◌∷◌, Option, Result, None, Some, Err, OnOk, All}
 use Rattle.pg_map.specs.Maps.{MapValue, IsMap}
 use Rattle.pg_wire.specs.declared.frame.Frame.{Frame}
@@ -9,11 +9,11 @@ use Rattle.pg_coord_partition.specs.Frames.{IsAtLeast, IsClosedAt}
 use Rattle.pg_coord_partition.specs.declared.link.LinkFault.{LinkFault}
 use Rattle.pg_coord_partition.specs.declared.link.LinkFault.TheVariants.{Failed}
 
--- ---- what is sent, and the maps that a link is under
+-- ---- frames that are sent, and the maps that a link is under
 
--- Whether a link is under a map once a frame was sent, from whether it was before. A set-up puts it under every map over
--- those bounds and vertices; of the maps that it was under, vertices leave those that are closed at them, and values those
--- that are at least the values.
+-- Whether a link is under a map once a frame was sent, given whether it was before. A set-up puts it under every map over
+-- the set-up's bounds and vertices. Of the maps that it was under, vertices leave those that are closed at them, and values
+-- leave those that are at least the values.
 abbrev pub IsUnderAfter : Frame → MapValue → Type 0 → Type 0
 IsUnderAfter (frames.Setup s) h before = (h.bounds ≡ s.bounds) × IsMap s.bounds s.vertices h.measures
 IsUnderAfter (frames.Vertices v) h before = before × All (IsClosedAt h) v.lines
@@ -25,17 +25,17 @@ IsUnderAfter frames.Halt h before = ⊥
 
 -- ---- failures
 
--- a call that is Failed was counted, or the count stands at its last value
+-- a call that is Failed was counted, or the count is at its greatest value
 abbrev pub CountsFailure : ℕ → ℕ → Result (Unit {0}) LinkFault → Type 0
 CountsFailure old new r = r ≡ Err Failed → (old < new) ⊎ (new ≡ 2 ^ 64 - 1)
 
--- ---- links that tell the frames that they will still hand over; a link that tells none is bound to nothing here
+-- ---- links that tell the frames that they will still return; a link that tells none is bound to nothing here
 
--- the report by which a set-up of version 2 is refused
+-- the report that refuses a set-up of version 2
 abbrev pub refusal : Frame
 refusal = frames.Report (record { status = 2; code = 18 })
 
--- what will be handed over once a frame was sent: a set-up of version 2 is refused ahead of all else
+-- the frames that a link will return once a frame was sent: a set-up of version 2 is refused before everything else
 abbrev pub told_after : Frame → List (List ℕ) → List (List ℕ)
 told_after (frames.Setup s) left = if s.version == 2 then spelling refusal ∷ left else left
 told_after (frames.Vertices v) left = left
@@ -55,7 +55,7 @@ abbrev pub RestartsTold : Option (List (List ℕ)) → Option (List (List ℕ)) 
 RestartsTold None new r = Unit {0}
 RestartsTold (Some left) new r = (r ≢ Err Failed) × OnOk r (new ≡ Some left)
 
--- a receive hands over the next frame; past the last one it is Failed
+-- a receive returns the next frame; past the last one it is Failed
 abbrev pub HandsOver : Option (List (List ℕ)) → Option (List (List ℕ)) → Result (Unit {0}) LinkFault → List ℕ → Type 0
 HandsOver None new r bytes = Unit {0}
 HandsOver (Some []) new r bytes = (r ≡ Err Failed) × (new ≡ Some [])

@@ -1,2 +1,2 @@
--- What mirrors code: no definition that a reader has to believe cites it.
+-- Mirrors of code: no definition that a reader has to believe cites them.
 pub mod Listed

@@ -38,8 +38,8 @@ impl Cut {
         Ok(Cut { workers, numbers })
     }
 
-    /// The cut that gives each vertex the worker with the number in the list. None if a number isn't between 1 and
-    /// `workers`. Fails only if memory runs out.
+    /// Makes the cut that gives each vertex the worker with the number in the list. Returns None if a number isn't between
+    /// 1 and `workers`. Fails only if memory runs out.
     pub fn from_list(alloc: Global, workers: u32, list: &[u32]) -> Result<Option<Cut>, AllocError>
         ensures cut { IfOk result (λ o. IfSome o (λ c. (c.workers ≡ workers) × (c.numbers ≡ list.now)
             × NameWorkers workers list.now)) }
@@ -53,21 +53,22 @@ impl Cut {
         Ok(Some(Cut { workers, numbers }))
     }
 
-    /// The number of vertices.
+    /// Returns the number of vertices.
     pub fn vertices(&self) -> usize
         ensures { result ≡ length self.now.numbers }
     {
         self.numbers.len()
     }
 
-    /// The number of workers.
+    /// Returns the number of workers.
     pub fn workers(&self) -> u32
         ensures { result ≡ self.now.workers }
     {
         self.workers
     }
 
-    /// The number of the worker that a vertex belongs to, from 1 on; 0 where there are 0 workers.
+    /// Returns the number of the worker that a vertex belongs to, from 1 on, or 0 if there are 0 workers. The vertex must
+    /// be below the number of vertices.
     pub fn worker_of(&self, v: Vertex) -> u32
         requires { v < length self.now.numbers }
         ensures value { result ≡ worker_of self.now v }
@@ -77,7 +78,7 @@ impl Cut {
     }
 }
 
-/// The worker of the vertex v.
+/// Returns the worker of the vertex v in an even cut, or 0 if there are no workers.
 fn even_worker(vertices: u32, workers: u32, v: u32) -> u32
     requires { v < vertices }
     ensures value { result ≡ even_worker vertices workers v }

@@ -28,8 +28,8 @@ impl From<AllocError> for LinkFault {
     }
 }
 
-/// A connection to a worker, over which frames are sent and received. Nobody has to trust its replies: only contracts
-/// speak of whether a link is honest.
+/// A connection to a worker, over which frames are sent and received. Nobody has to trust its replies: only contracts say
+/// whether a link is honest.
 pub trait Link {
     /// The number of calls that were `Failed`, up to 18,446,744,073,709,551,615.
     ghost failures: { Self → ℕ };
@@ -37,17 +37,17 @@ pub trait Link {
     /// Whether each value that it returns is at most that of every map that the link is under.
     ghost is_honest: { Self → Type 0 };
 
-    /// The maps that the link is under: those that are closed at the vertices that it was sent, and at least the values
-    /// that it was sent, since its set-up.
+    /// The maps that the link is under: those that are closed at the vertices sent to it since its set-up, and at least the
+    /// values sent to it since then.
     ghost is_under: { Self → MapValue → Type 0 };
 
-    /// Whether the worker was started anew, and nothing was sent to it since.
+    /// Whether the worker was started anew, and nothing was sent to it since then.
     ghost is_anew: { Self → Type 0 };
 
     /// The frames that the link will still return, if it tells them.
     ghost told: { Self → Option (List (List ℕ)) };
 
-    /// Told before the link is set up, so that what takes time may begin. Nothing that is known of the link changes.
+    /// Called before the link is set up, so that slow work can begin. Nothing that contracts know of the link changes.
     fn prepare(&mut self)
         ensures { self.new ≡ self.old }
     {}
@@ -60,8 +60,8 @@ pub trait Link {
             → IsUnderAfter f h (is_under self.old h) → is_under self.new h) }
         ensures told { (f : Frame) → Spells f frame.now → SendsTold f (told self.old) (told self.new) result };
 
-    /// Receives the bytes of the next frame: the vector then holds these and nothing else. After a fault its content is
-    /// open.
+    /// Receives the bytes of the next frame into the vector, in place of its contents. After a fault the content of the
+    /// vector is unspecified.
     fn receive(&mut self, frame: &mut Vec<u8>) -> Result<(), LinkFault>
         ensures counted { CountsFailure (failures self.old) (failures self.new) result }
         ensures honest { is_honest self.old → is_honest self.new }
@@ -70,7 +70,7 @@ pub trait Link {
             → (f : Frame) → Spells f frame.new.items → IsAtLeast h.measures (measures_in f)) }
         ensures told { HandsOver (told self.old) (told self.new) result frame.new.items };
 
-    /// Starts the worker anew; it has to be set up again.
+    /// Starts the worker anew; it must then be set up again.
     fn restart(&mut self) -> Result<(), LinkFault>
         ensures counted { CountsFailure (failures self.old) (failures self.new) result }
         ensures honest { is_honest self.old → is_honest self.new }

@@ -1,4 +1,4 @@
-//! Measures as they go in frames.
+//! Measures as they appear in frames.
 
 ghost use Rattle.std.specs.Prelude.{◌≡◌, ◌↔◌, ◌≤◌, ℕ, List, Some, None, IsTrue, cond, length, IfOk, OnErr, IfSome};
 ghost use Rattle.pg_measure.specs.Measures.{Fits};
@@ -12,7 +12,7 @@ use pg_measure::{Bounds, row};
 use pg_wire::ValuesWriter;
 use std::alloc::AllocError;
 
-/// Whether a measure that is lent is one of the bounds.
+/// Whether a borrowed measure fits the bounds.
 pub fn fits(measure: View, bounds: &Bounds) -> bool
     ensures { IsTrue result ↔ Fits bounds.now (measure_in measure.entry) }
 {
@@ -22,15 +22,16 @@ pub fn fits(measure: View, bounds: &Bounds) -> bool
     }
 }
 
-/// The measure that a row has, if it isn't top.
+/// Returns the measure of a row: top if `is_top`, and otherwise the list in the row.
 pub fn lent_row(is_top: bool, row: &[u32]) -> View<'_>
     ensures { measure_in result ≡ cond is_top None (Some row.now) }
 {
     if is_top { View::Top } else { View::List(row) }
 }
 
-/// Appends the measure of a vertex to a frame; false where the frame would be longer than a frame may be. Where it answers false
-/// or memory runs out, all is as before.
+/// Appends the measure of a vertex, which has at most 32,768 components, to a frame. Returns false if the frame would get
+/// too long: more than 16,777,216 bytes after its length. If it returns false or memory runs out, the writer and the buffer
+/// stay as they were.
 pub fn push(
     writer: &mut ValuesWriter,
     v: Vertex,

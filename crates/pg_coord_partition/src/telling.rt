@@ -1,4 +1,4 @@
-//! The lines of a game that a worker gets.
+//! The set-up and the lines of a game, as a worker receives them.
 
 ghost use Rattle.std.specs.Prelude.{◌≡◌, ◌≤◌, ◌<◌, ◌*◌, ◌↔◌, length, IsTrue, IfOk, OnOk};
 ghost use Rattle.pg_arena.specs.Games.{vertex_at};
@@ -13,10 +13,11 @@ use pg_measure::Bounds;
 use pg_wire::{Items, LineHead, Setup, VertexLine};
 use std::alloc::{AllocError, Global};
 
-/// How many numbers a worker keeps in its map, at most.
+/// The greatest number of components in a worker's map.
 const MOST_NUMBERS: usize = 67_108_864;
 
-/// Whether a worker keeps a map of so many vertices and so many odd priorities.
+/// Whether a worker keeps a map for this number of vertices and of odd priorities: whether their product is at most
+/// 67,108,864.
 pub fn fits_worker(vertices: usize, bounds: usize) -> bool
     ensures { IsTrue result ↔ vertices * bounds ≤ 67108864 }
 {
@@ -26,7 +27,7 @@ pub fn fits_worker(vertices: usize, bounds: usize) -> bool
     }
 }
 
-/// What sets a worker up for a game with these bounds, by version 1 or 2 of the wire format.
+/// Makes the set-up for a game with these bounds, in version 1 or 2 of the wire format. Fails only if memory runs out.
 pub fn setup_of(
     alloc: Global,
     version: u8,
@@ -50,7 +51,7 @@ pub fn setup_of(
     })
 }
 
-/// Puts the numbers of vertices into a vector, in place of what it held.
+/// Puts the numbers of vertices into a vector, in place of its contents.
 fn fill_numbers(vertices: &[Vertex], numbers: &mut Vec<u32>) -> Result<(), AllocError>
     ensures { OnOk result (numbers.new.items ≡ vertices.now) }
 {
@@ -62,7 +63,8 @@ fn fill_numbers(vertices: &[Vertex], numbers: &mut Vec<u32>) -> Result<(), Alloc
     Ok(())
 }
 
-/// The line of a vertex for a worker. Its successors replace what the vector held.
+/// Returns the head of a vertex's line for a worker, and puts the successors into the vector, in place of its contents. The
+/// vertex must be one of the game. Fails only if memory runs out.
 pub fn fill_line(game: &Game, v: Vertex, successors: &mut Vec<u32>) -> Result<LineHead, AllocError>
     requires { v < length game.now }
     ensures vertex { IfOk result (λ head. head.vertex ≡ v) }
@@ -83,7 +85,7 @@ pub fn fill_line(game: &Game, v: Vertex, successors: &mut Vec<u32>) -> Result<Li
     })
 }
 
-/// The line of a vertex for a worker.
+/// Makes the line of a vertex for a worker. The vertex must be one of the game. Fails only if memory runs out.
 pub fn line_of(alloc: Global, game: &Game, v: Vertex) -> Result<VertexLine, AllocError>
     requires { v < length game.now }
     ensures vertex { IfOk result (λ l. l.vertex ≡ v) }

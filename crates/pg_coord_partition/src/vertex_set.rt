@@ -1,4 +1,4 @@
-//! Vertices that are listed, each once.
+//! Lists of vertices, each at most once.
 
 ghost use Rattle.std.specs.Prelude.{◌≡◌, ◌<◌, ◌++◌, ◌∷◌, [], length, All, AllPairs, Any, IfOk};
 ghost use Rattle.std.specs.List.{Contains};
@@ -8,7 +8,7 @@ use pg_arena::Vertex;
 use std::alloc::{AllocError, Global};
 use std::marker::Model;
 
-/// A list of vertices, each at most once. All its room is taken when it is made.
+/// A list of vertices, each at most once. It takes all its memory when it is made.
 #[derive(Drop)]
 pub struct VertexSet {
     vertices: Vec<Vertex>,
@@ -28,7 +28,7 @@ impl Model for VertexSet {
 }
 
 impl VertexSet {
-    /// Room for the vertices below `count`; none is listed.
+    /// Makes an empty list with room for the vertices below `count`. Fails only if memory runs out.
     pub fn new(alloc: Global, count: u32) -> Result<VertexSet, AllocError>
         ensures count { IfOk result (λ l. l.count ≡ count) }
         ensures none { IfOk result (λ l. l.vertices ≡ []) }
@@ -39,7 +39,7 @@ impl VertexSet {
         })
     }
 
-    /// Lists a vertex, unless it is listed.
+    /// Lists a vertex, which must be below the count, unless it is listed already.
     pub fn add(&mut self, v: Vertex)
         requires { v < self.old.count }
         ensures count { self.new.count ≡ self.old.count }
@@ -54,7 +54,7 @@ impl VertexSet {
         }
     }
 
-    /// Takes all vertices off the list.
+    /// Removes all vertices from the list.
     pub fn clear(&mut self)
         ensures count { self.new.count ≡ self.old.count }
         ensures none { self.new.vertices ≡ [] }
@@ -64,7 +64,7 @@ impl VertexSet {
         }
     }
 
-    /// Sorts the list by number.
+    /// Sorts the list by number, from the least on.
     pub fn sort(&mut self)
         ensures count { self.new.count ≡ self.old.count }
         ensures rising { AllPairs (λ v w. v < w) self.new.vertices }
@@ -74,7 +74,7 @@ impl VertexSet {
         self.vertices.sort_unstable();
     }
 
-    /// The vertices.
+    /// Returns the vertices that are listed.
     pub fn as_slice(&self) -> &[Vertex]
         ensures { result.now ≡ self.now.vertices }
     {

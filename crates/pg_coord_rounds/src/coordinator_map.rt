@@ -18,9 +18,9 @@ use std::alloc::{AllocError, Global};
 pub struct CoordinatorMap {
     pub map: MeasureMap,
     pub risen: VertexSet,
-    /// Whether a vertex rose since `begin`, or may rise in the first round.
+    /// Whether a vertex rose since `begin`, or might rise in the first round.
     pub rose: bool,
-    /// Whether those that rose were lifted here.
+    /// Whether the vertices that rose were lifted here.
     pub by_lifts: bool,
     /// Whether a round has begun.
     pub has_begun: bool,
@@ -42,7 +42,7 @@ fn list_if(rose: bool, risen: &mut VertexSet, v: Vertex)
 impl CoordinatorMap {
     ghost use Rattle.pg_coord_rounds.specs.Mirrors.CoordinatorMaps.{Moves};
 
-    /// A map before the first round. It takes all the memory that the coordinator ever has.
+    /// Makes the coordinator's map before the first round. It takes all the memory that this map ever needs.
     pub fn new(alloc: Global, map: MeasureMap) -> Result<CoordinatorMap, AllocError>
         ensures map { IfOk result (λ b. b.map ≡ map) }
         ensures fits { IsMap map.bounds (length map.measures) map.measures }
@@ -58,7 +58,7 @@ impl CoordinatorMap {
         })
     }
 
-    /// Begins a round: none rose yet.
+    /// Begins a round, in which no vertex rose yet.
     pub fn begin(&mut self)
         ensures map { self.new.map ≡ self.old.map }
         ensures rose { self.new.rose ≡ false }
@@ -83,7 +83,7 @@ impl CoordinatorMap {
         self.rose |= rose;
     }
 
-    /// Lifts a vertex of the game. True exactly if it rose.
+    /// Lifts a vertex of the game. Returns true if and only if it rose.
     pub fn lift(&mut self, game: &Game, v: Vertex) -> bool
         requires size { length self.old.map.measures ≡ length game.now }
         requires v { v < length game.now }
@@ -99,7 +99,7 @@ impl CoordinatorMap {
         ensures rose { self.new.rose ≡ (self.old.rose || result) }
     {
         pg_map::laws::game_lines();
-        // called for what its contract says of the game
+        // called for the facts about the game in its contract
         let _vertices = game.len();
         let rose = self.map.lift(game, v);
         list_if(rose, &mut self.risen, v);

@@ -1,4 +1,4 @@
-//! Why nothing is solved.
+//! Why a game isn't solved.
 
 use std::alloc::AllocError;
 use thiserror::Error;
@@ -9,7 +9,7 @@ pub enum CoordFault {
     /// Memory ran out, here or in a link.
     #[error("out of memory")]
     OutOfMemory,
-    /// The cut doesn't have the vertices of the game, or its number of workers isn't that of the links.
+    /// The cut doesn't have the vertices of the game, or its number of workers isn't the number of links.
     #[error("the cut does not fit the game")]
     CutMismatch,
 }

@@ -1,4 +1,4 @@
-//! Joins the measures of frames into the coordinator's map.
+//! Joins the measures of frames with the coordinator's map.
 
 ghost use Rattle.std.specs.Prelude.{◌≡◌, ◌↔◌, ◌<◌, IsTrue, length, List, All};
 ghost use Rattle.pg_measure.specs.Measures.{Fits};
@@ -17,14 +17,15 @@ use pg_map::View;
 use pg_measure::Bounds;
 use pg_wire::{ValueKind, ValuesReader};
 
-/// Whether a measure is one of the bounds, at a vertex of the worker's part.
+/// Whether a measure fits the bounds, and its vertex is in the worker's part.
 fn is_of_part(bounds: &Bounds, cut: &Cut, worker: u32, vertex: u32, m: View) -> bool
     ensures { IsTrue result ↔ IsOfPart bounds.now cut.now worker (vertex, measure_in m.entry) }
 {
     (vertex as usize) < cut.vertices() && cut.worker_of(Vertex(vertex)) == worker && fits(m, bounds)
 }
 
-/// Whether the measures that are left of a frame are of the worker's part, by a row of as many places as it is wide.
+/// Whether the measures that are left of a frame belong to the worker's part. The row has as many places as the frame's
+/// width.
 fn are_of_part(
     bounds: &Bounds,
     cut: &Cut,
@@ -43,7 +44,7 @@ fn are_of_part(
     true
 }
 
-/// Joins the measures that are left of a frame, by a row of as many places as it is wide.
+/// Joins the measures that are left of a frame with the map. The row has as many places as the frame's width.
 fn join_read(coordinator: &mut CoordinatorMap, mut values: ValuesReader, row: &mut [u32])
     requires row { length row.old ≡ values.width }
     requires fit { (ms : List Measured) × IsLeft values ms
@@ -56,15 +57,16 @@ fn join_read(coordinator: &mut CoordinatorMap, mut values: ValuesReader, row: &m
     }
 }
 
-/// Whether a frame is as wide as the bounds.
+/// Whether a frame's width is the number of bounds.
 fn is_as_wide(width: u32, bounds: &Bounds) -> bool
     ensures { IsTrue result ↔ (width ≡ length bounds.now) }
 {
     width as usize == bounds.pairs().len()
 }
 
-/// Joins the measures of a frame, by a row of as many places as there are bounds. False exactly where the frame isn't of the
-/// kind that was agreed on, or a measure isn't of the worker's part; then none is joined.
+/// Joins the measures of a frame with the map. The row has a place for each bound. Returns false if and only if the frame
+/// isn't of the kind that was agreed on, its width isn't the number of bounds, or a measure doesn't belong to the worker's
+/// part; then none is joined.
 pub fn join_frame(
     coordinator: &mut CoordinatorMap,
     cut: &Cut,

@@ -1,19 +1,19 @@
-//! What the coordinator keeps of a link.
+//! The coordinator's state of a link.
 
 use pg_wire::ValueKind;
 
-/// What the coordinator keeps of a link.
+/// The coordinator's state of a link.
 #[derive(Clone, Copy)]
 pub struct LinkState {
     /// Whether the link takes part.
     pub in_use: bool,
-    /// Whether it was queried in this round, and hasn't failed since.
+    /// Whether the link was queried in this round, and hasn't failed since then.
     pub queried: bool,
-    /// Whether it was set up and has to be sent every value that is above zero.
+    /// Whether the link was set up and must be sent every value that is above zero.
     pub behind: bool,
-    /// In which frames values go: `Sparse`, until the link refuses version 2.
+    /// The kind of frames in which values go: `Sparse`, until the link refuses version 2.
     pub kind: ValueKind,
-    /// How often the link was restarted after a failure.
+    /// The number of times that the link was restarted after a failure.
     pub restarts: u8,
 }
 
@@ -26,5 +26,5 @@ pub const UNSET: LinkState = LinkState {
     restarts: 0,
 };
 
-/// How often a link is restarted after a failure, at most.
+/// The greatest number of times that a link is restarted after a failure.
 pub const MOST_RESTARTS: u8 = 3;

@@ -10,8 +10,8 @@ use crate::coordinator_map::CoordinatorMap;
 use crate::task::Task;
 use pg_arena::{Game, Vertex};
 
-/// Where nothing rose, lifts each vertex that can be lifted, from 0 up. Each measure then covers what some or all of the
-/// vertex's successors had before.
+/// Lifts each vertex that can be lifted, from 0 up, in a round in which nothing rose. Each measure then covers the measures
+/// that some or all of the vertex's successors had before.
 fn pass(coordinator: &mut CoordinatorMap, game: &Game)
     requires size { length coordinator.old.map.measures ≡ length game.now }
     requires rose { coordinator.old.rose ≡ false }
@@ -24,14 +24,14 @@ fn pass(coordinator: &mut CoordinatorMap, game: &Game)
         → IsClosed coordinator.new.map.bounds (game_line game.now) coordinator.new.map.measures }
 {
     pg_map::laws::game_lines();
-    // called for what its contract says of the map
+    // called for the facts about the map in its contract
     let _map = coordinator.map.len();
     for number in 0..game.len() {
         coordinator.lift(game, Vertex(number as u32));
     }
 }
 
-/// Ends a round: where nothing rose in it, makes a pass. The map is closed where nothing rose in that either.
+/// Ends a round: if nothing rose in it, makes a pass. If nothing rises in the pass either, the map is closed.
 pub fn end_round(task: &Task<'_>, coordinator: &mut CoordinatorMap)
     requires bounds { coordinator.old.map.bounds ≡ task.now.bounds }
     requires size { length coordinator.old.map.measures ≡ length task.now.game }

@@ -41,7 +41,7 @@ fn start_again<L: Link>(
     }
 }
 
-/// Restarts a link that failed and sets it up again, until that succeeds or it was restarted three times; then it is
+/// Restarts a link that failed and sets it up again, until that succeeds or it was restarted three times. Then it is
 /// abandoned.
 fn mend<L: Link>(
     task: &Task<'_>,
@@ -129,7 +129,8 @@ fn query_one<L: Link>(
     }
 }
 
-/// Receives the reply of a link, if that was queried, and joins its values, by a row of as many places as there are bounds.
+/// Receives the reply of a link, if the link was queried, and joins its values with the map. The row has a place for each
+/// bound.
 fn receive_one<L: Link>(
     task: &Task<'_>,
     link: &mut L,
@@ -225,7 +226,7 @@ fn query_all<L: Link>(
     Ok(())
 }
 
-/// Receives the reply of each link that was queried, by a row of as many places as there are bounds.
+/// Receives the reply of each link that was queried. The row has a place for each bound.
 fn receive_all<L: Link>(
     task: &Task<'_>,
     links: &mut [L],
@@ -264,7 +265,7 @@ fn receive_all<L: Link>(
     Ok(())
 }
 
-/// Makes a round over the links, by a row of as many places as there are bounds. Where nothing rises in it the map is closed.
+/// Makes a round over the links. The row has a place for each bound. If nothing rises in the round, the map is closed.
 pub fn make_round<L: Link>(
     task: &Task<'_>,
     links: &mut [L],
@@ -296,7 +297,7 @@ pub fn make_round<L: Link>(
     coordinator.begin();
     receive_all(task, links, states, coordinator, buffer, row)?;
     end_round(task, coordinator);
-    // called for what its contract says of the map
+    // called for the facts about the map in its contract
     let _vertices = coordinator.map.len();
     Ok(())
 }

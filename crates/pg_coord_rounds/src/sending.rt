@@ -1,4 +1,4 @@
-//! Frames that go over links.
+//! Sends and receives frames over links.
 
 ghost use Rattle.std.specs.Prelude.{◌≡◌, ◌≢◌, ◌≤◌, ℕ, List, Some, Err, length, All, IfOk, OnOk};
 ghost use Rattle.pg_map.specs.Maps.{MapValue};
@@ -13,7 +13,7 @@ use pg_coord_partition::{Link, LinkFault};
 use pg_wire::{Frame, WireFault, decode, write_frame};
 use std::alloc::Global;
 
-/// Sends one frame, whose bytes are put into the buffer. It is Failed only where the link's call was.
+/// Sends one frame. Its bytes replace the contents of the buffer. It fails with `Failed` only if the link's call does.
 pub fn send_frame<L: Link>(
     link: &mut L,
     frame: &Frame,
@@ -34,7 +34,8 @@ pub fn send_frame<L: Link>(
     }
 }
 
-/// Receives one frame, its bytes into the buffer. It is Failed where the link's call was, and where the bytes are no frame.
+/// Receives one frame. Its bytes replace the contents of the buffer. It fails with `Failed` if the link's call does, and if
+/// the bytes are no frame.
 pub fn receive_frame<L: Link>(
     alloc: Global,
     link: &mut L,
@@ -59,7 +60,7 @@ pub fn receive_frame<L: Link>(
 /// The bytes of Halt.
 const HALT: [u8; 5] = [0, 0, 0, 1, 6];
 
-/// Ends the workers: sends Halt over each link. What the links answer is left open.
+/// Ends the workers: sends Halt over each link. It ignores the results of the calls.
 pub fn halt<L: Link>(links: &mut [L])
     ensures { All L.is_honest links.old → All L.is_honest links.new }
 {

@@ -17,13 +17,13 @@ use pg_coord_partition::{Link, LinkFault, fill_line, setup_of};
 use pg_wire::{Frame, ValueKind, VerticesWriter};
 use std::alloc::AllocError;
 
-/// How many bytes of lines make a frame that is sent.
+/// The number of bytes of lines after which a frame is sent.
 const BATCH: usize = 65_536;
 
-/// How many bytes stand before the lines of a frame: its length, its kind and the count.
+/// The number of bytes before the lines of a frame: its length, its kind and the count.
 const FRONT: usize = 9;
 
-/// The version of the wire format in which values go in frames of a kind.
+/// Returns the version of the wire format in which values go in frames of this kind.
 fn version_of(kind: ValueKind) -> u8
     ensures range { (1 ≤ result) × (result ≤ 2) }
     ensures kind { kind_of result ≡ kind }
@@ -34,7 +34,7 @@ fn version_of(kind: ValueKind) -> u8
     }
 }
 
-/// Sends the set-up of a version.
+/// Sends a set-up in the version of this kind of frames.
 fn send_setup<L: Link>(
     task: &Task<'_>,
     link: &mut L,
@@ -52,7 +52,7 @@ fn send_setup<L: Link>(
     Ok(())
 }
 
-/// Sends the set-up of version 1 to a worker that was started anew.
+/// Sends a set-up of version 1 to a worker that was started anew.
 fn send_older_setup<L: Link>(
     task: &Task<'_>,
     link: &mut L,
@@ -66,7 +66,8 @@ fn send_older_setup<L: Link>(
     send_setup(task, link, ValueKind::Dense, buffer)
 }
 
-/// What the one reply to a set-up of version 2 says: whether the worker takes it. Any other reply fails the link.
+/// Returns whether the worker accepts a set-up of version 2, by its one reply. Any other reply is a failure of the link:
+/// the answer is `Failed`.
 fn answer(frame: &Frame) -> Result<bool, LinkFault>
     ensures accepted { result ≡ Ok true ↔ frame.now ≡ acceptance }
     ensures refused { result ≡ Ok false ↔ frame.now ≡ refusal }
@@ -82,7 +83,8 @@ fn answer(frame: &Frame) -> Result<bool, LinkFault>
     }
 }
 
-/// Whether the worker takes a set-up of version 2, by its one reply. Where that is neither of the two, the call is Failed.
+/// Returns whether the worker accepts a set-up of version 2, by its one reply. If the reply is neither an acceptance nor a
+/// refusal, the call is `Failed`.
 fn accepts<L: Link>(task: &Task<'_>, link: &mut L, buffer: &mut Vec<u8>) -> Result<bool, LinkFault>
     ensures honest { L.is_honest link.old → L.is_honest link.new }
     ensures under { L.is_honest link.old → (h : MapValue) → L.is_under link.old h → L.is_under link.new h }
@@ -96,8 +98,9 @@ fn accepts<L: Link>(task: &Task<'_>, link: &mut L, buffer: &mut Vec<u8>) -> Resu
     }
 }
 
-/// Sends a set-up of version 2, and where the worker refuses that, restarts it and sends one of version 1, as from then on. Where values
-/// go sparse after it, the last frame that came is the acceptance.
+/// Sends a set-up, of version 2 as long as `kind` is `Sparse`. If the worker refuses that one, restarts it and sends a
+/// set-up of version 1, as for every later set-up. If `kind` is still `Sparse` afterwards, the last frame that came is the
+/// acceptance.
 fn agree<L: Link>(
     task: &Task<'_>,
     link: &mut L,
@@ -120,7 +123,7 @@ fn agree<L: Link>(
     Ok(())
 }
 
-/// Appends the line of a vertex to a frame; it fits.
+/// Appends the line of a vertex to a frame, in which there is room for it.
 fn push_line(
     task: &Task<'_>,
     v: Vertex,
@@ -139,8 +142,8 @@ fn push_line(
     Ok(())
 }
 
-/// Writes one frame of lines of a worker's part, from a vertex on, until it has 64 kB of lines: the vertex after the last one that it
-/// passed, and whether it has a line.
+/// Writes one frame with lines of a worker's part, from the vertex `first` on, until it has 65,536 bytes of lines. Returns
+/// the vertex after the last one that it looked at, and whether the frame has a line.
 fn write_lines(
     task: &Task<'_>,
     worker: u32,
@@ -194,7 +197,7 @@ fn send_part<L: Link>(
     Ok(())
 }
 
-/// Sets a worker up for its part. `kind` becomes that of version 1 where the worker refuses version 2.
+/// Sets a worker up for its part. `kind` becomes the kind of version 1 if the worker refuses version 2.
 pub fn set_up<L: Link>(
     task: &Task<'_>,
     link: &mut L,

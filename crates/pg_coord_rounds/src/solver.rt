@@ -1,4 +1,4 @@
-//! Solving over links.
+//! Solves games over links.
 
 ghost use Rattle.std.specs.Prelude.{IsTrue, ◌≡◌, ◌↔◌, ◌+◌, ◌<◌, ◌≤◌, ◌^◌, ℕ, List, Some, true, false, length, IfOk, IfSome, IfNone, OnOk, All, Err};
 ghost use Rattle.pg_measure.specs.Games.{IsBoundsOf};
@@ -23,8 +23,8 @@ use pg_map::MeasureMap;
 use pg_measure::Bounds;
 use std::alloc::{AllocError, Global};
 
-/// The map that `solve` found, and how many rounds it made, how often it restarted links, and how many links it gave
-/// up. The counts stop at 18,446,744,073,709,551,615. No clause says anything about the last two.
+/// The map that `solve` found, and the numbers of rounds that it made, of restarts of links, and of links that it gave up.
+/// The counts stop at 18,446,744,073,709,551,615. No clause says anything about the last two.
 #[derive(Drop)]
 pub struct Solved {
     pub map: MeasureMap,
@@ -33,7 +33,7 @@ pub struct Solved {
     pub abandoned: u64,
 }
 
-/// How many restarts there were.
+/// Returns the number of restarts of the links.
 fn restarts(states: &[LinkState]) -> u64 {
     let mut count = 0u64;
     for state in states {
@@ -42,7 +42,7 @@ fn restarts(states: &[LinkState]) -> u64 {
     count
 }
 
-/// How many links were given up.
+/// Returns the number of links that were given up.
 fn abandoned(states: &[LinkState]) -> u64 {
     let mut count = 0u64;
     for state in states {
@@ -53,15 +53,16 @@ fn abandoned(states: &[LinkState]) -> u64 {
     count
 }
 
-/// Whether rounds are given up, after so many in which measures rose: where these are more than `most_rounds`, and where no link is in
-/// use. `u64::MAX` is no limit, and then they never are.
+/// Whether to give up after `rounds` rounds in which measures rose: if these are more than `most_rounds`, or no link is in
+/// use. `u64::MAX` is no limit, and then the answer is false.
 fn are_given_up(rounds: u64, most_rounds: u64, states: &[LinkState]) -> bool
     ensures { IsTrue result → most_rounds + 1 < 2 ^ 64 }
 {
     most_rounds < u64::MAX && (rounds > most_rounds || states.iter().all(|state| !state.in_use))
 }
 
-/// Makes rounds until nothing rises in one, by a row of as many places as there are bounds: how many. None where they are given up.
+/// Makes rounds until nothing rises in one, and returns their number, or None if they are given up. The row has a place for
+/// each bound.
 fn make_rounds<L: Link>(
     task: &Task<'_>,
     links: &mut [L],
@@ -94,7 +95,8 @@ fn make_rounds<L: Link>(
     Ok(Some(rounds))
 }
 
-/// Solves a task over links, from a map on: sets the links up, and makes rounds over them. None where rounds are given up.
+/// Solves a task over links, starting from a map: sets the links up, and makes rounds over them. Returns None if the rounds
+/// are given up.
 fn work<L: Link>(
     task: &Task<'_>,
     links: &mut [L],
@@ -137,7 +139,7 @@ fn work<L: Link>(
     }))
 }
 
-/// Whether the cut is over the game's vertices and as many workers as there are links.
+/// Whether the cut is over the game's vertices and has as many workers as there are links.
 fn fits(cut: &Cut, game: &Game, links: usize) -> bool
     ensures mismatch { result ≡ false ↔ IsMismatch (length game.now) links cut.now }
     ensures few { IsTrue result → links < 2 ^ 32 }
@@ -145,7 +147,8 @@ fn fits(cut: &Cut, game: &Game, links: usize) -> bool
     cut.vertices() == game.len() && cut.workers() as usize == links
 }
 
-/// The map with zeros for the game, if the cut fits.
+/// Makes the map with zeros for the game. It fails with `CutMismatch` if and only if the cut doesn't fit, and otherwise
+/// only if memory runs out.
 fn zero_of(alloc: Global, game: &Game, cut: &Cut, links: usize) -> Result<MeasureMap, CoordFault>
     ensures bounds { IfOk result (λ m. IsBoundsOf game.now m.bounds) }
     ensures zeros { IfOk result (λ m. m.measures ≡ zero_map m.bounds (length game.now)) }
@@ -170,8 +173,9 @@ fn zero_of(alloc: Global, game: &Game, cut: &Cut, links: usize) -> Result<Measur
 /// If a link fails, the coordinator restarts it and sets it up again, at most three times. Then it gives the link up,
 /// and lifts that part here.
 ///
-/// Faults: `CutMismatch` if the cut doesn't have the game's vertices or its number of workers isn't that of the links,
-/// which then stay as they were; `OutOfMemory`. Honest links stay honest in every case.
+/// Faults: `CutMismatch` if and only if the cut doesn't have the game's vertices or its number of workers isn't the number
+/// of links, and then the links stay as they were; `OutOfMemory` if memory runs out, here or in a link. Honest links stay
+/// honest in every case.
 pub fn solve<L: Link>(
     alloc: Global,
     game: &Game,
@@ -198,9 +202,9 @@ pub fn solve<L: Link>(
     }
 }
 
-/// Solves a game as `solve` does, but gives up after more than `limit` rounds in which measures rose, and when no link
-/// is in use. Then the answer is None, and you may use the links again. With `u64::MAX` it never gives up, even if no
-/// link is in use.
+/// Solves a game as `solve` does, but gives up after more than `limit` rounds in which measures rose, and when no link is
+/// in use. Then it returns None, and you may use the links again. With `u64::MAX` it never gives up, even if no link is in
+/// use.
 ///
 /// Faults: as for `solve`.
 pub fn solve_within<L: Link>(

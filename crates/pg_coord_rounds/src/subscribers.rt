@@ -1,17 +1,17 @@
-//! Who has to know which vertex.
+//! The workers that need to know a vertex's measure.
 
 use pg_arena::{Game, Vertex};
 use pg_coord_partition::Cut;
 use std::alloc::{AllocError, Global};
 
-/// For each vertex the workers that subscribe to it: those of whose vertices it is a successor. Workers whose numbers are the same
-/// modulo 16 are taken for one.
+/// For each vertex the workers that subscribe to it: those that have a vertex whose successor it is. Workers whose numbers
+/// are equal modulo 16 are treated as one.
 #[derive(Drop)]
 pub struct Subscribers {
     masks: Vec<u16>,
 }
 
-/// The bit of a worker.
+/// Returns the bit of a worker.
 fn bit(worker: u32) -> u16 {
     1 << (worker % 16)
 }
@@ -19,7 +19,7 @@ fn bit(worker: u32) -> u16 {
 impl Subscribers {
     ghost use Rattle.std.specs.Prelude.{◌≡◌, length};
 
-    /// Who subscribes to what in a game that is cut so.
+    /// Finds the subscribers of each vertex in a game with this cut.
     pub fn of(alloc: Global, game: &Game, cut: &Cut) -> Result<Subscribers, AllocError>
         requires { length cut.now.numbers ≡ length game.now }
     {

@@ -1,4 +1,4 @@
-//! What is solved.
+//! The task that is solved.
 
 ghost use Rattle.std.specs.Prelude.{◌≡◌, ◌≤◌, length, IfOk};
 ghost use Rattle.pg_measure.specs.Games.{IsBoundsOf};
@@ -10,7 +10,8 @@ use pg_measure::Bounds;
 use std::alloc::{AllocError, Global};
 use std::marker::Model;
 
-/// A game that is cut among workers, the bounds of its measures, and how many lifts a worker makes in a turn.
+/// A game that is cut among workers, the bounds of its measures, and the greatest number of lifts that a worker makes in a
+/// turn.
 #[derive(Drop)]
 pub struct Task<'a> {
     alloc: Global,
@@ -34,7 +35,7 @@ impl<'a> Model for Task<'a> {
 impl<'a> Task<'a> {
     ghost use Rattle.pg_coord_rounds.specs.Mirrors.Tasks.{IsTask};
 
-    /// The game, cut so, with its bounds.
+    /// Makes the task of a game with this cut and its bounds.
     pub fn new(
         alloc: Global,
         game: &'a Game,
@@ -50,7 +51,7 @@ impl<'a> Task<'a> {
     {
         pg_measure::laws::bounds_are_few();
         pg_map::laws::game_lines();
-        // called for what its contract says of the game
+        // called for the facts about the game in its contract
         let _vertices = game.len();
         let bounds = Bounds::from_pairs(alloc, bounds.pairs())?;
         let subscribers = Subscribers::of(alloc, game, cut)?;
@@ -64,12 +65,12 @@ impl<'a> Task<'a> {
         })
     }
 
-    /// Where memory comes from.
+    /// Returns the allocator.
     pub fn alloc(&self) -> Global {
         self.alloc
     }
 
-    /// The game.
+    /// Returns the game.
     pub fn game(&self) -> &Game
         ensures value { result.now ≡ self.now.game }
         ensures task { IsTask self.now }
@@ -77,7 +78,7 @@ impl<'a> Task<'a> {
         self.game
     }
 
-    /// Which worker each vertex belongs to.
+    /// Returns the cut: which worker each vertex belongs to.
     pub fn cut(&self) -> &Cut
         ensures value { result.now ≡ self.now.cut }
         ensures task { IsTask self.now }
@@ -85,14 +86,14 @@ impl<'a> Task<'a> {
         self.cut
     }
 
-    /// The bounds of the game.
+    /// Returns the bounds of the game.
     pub fn bounds(&self) -> &Bounds
         ensures { result.now ≡ self.now.bounds }
     {
         &self.bounds
     }
 
-    /// How many bounds there are.
+    /// Returns the number of bounds, at most 32,768.
     pub fn width(&self) -> u32
         ensures value { result ≡ length self.now.bounds }
         ensures few { result ≤ 32768 }
@@ -102,12 +103,12 @@ impl<'a> Task<'a> {
         self.bounds.pairs().len() as u32
     }
 
-    /// Who has to know which vertex.
+    /// Returns the workers that need to know each vertex's measure.
     pub fn subscribers(&self) -> &Subscribers {
         &self.subscribers
     }
 
-    /// How many lifts a worker makes in a turn, at most.
+    /// Returns the greatest number of lifts that a worker makes in a turn.
     pub fn budget(&self) -> u32 {
         self.budget
     }

@@ -27,13 +27,13 @@ use pg_map::{MeasureMap, View};
 use pg_wire::{Frame, Go, ValueKind, ValuesReader, WireFault, decode};
 use std::alloc::{AllocError, Global};
 
-/// How many frames a reply has at most.
+/// The greatest number of frames in a reply.
 const MOST_FRAMES: u32 = 65_536;
 
-/// How many lifts a short turn has.
+/// The number of lifts in a short turn.
 const SHORT_TURN: u32 = 256;
 
-/// Where so many vertices rose for each worker, the next turns are short.
+/// The number of risen vertices per worker from which the next turns are short.
 const MANY: usize = 224;
 
 /// Whether a measure is a list of zeros.
@@ -44,7 +44,7 @@ fn is_zero(measure: View) -> bool {
     }
 }
 
-/// The vertices whose measures are above zero.
+/// Returns the vertices whose measures are above zero.
 fn above_zero(alloc: Global, map: &MeasureMap) -> Result<Vec<Vertex>, AllocError>
     ensures { IfOk result (λ vs. All (λ v. v < length map.now.measures) vs.items) }
 {
@@ -58,8 +58,9 @@ fn above_zero(alloc: Global, map: &MeasureMap) -> Result<Vec<Vertex>, AllocError
     Ok(vertices)
 }
 
-/// How many lifts a worker may make at a Go: the budget, or a short turn at most, at first and where many vertices rose in the last
-/// round. Then most lifts raised a vertex of their own, and much of what a long turn made of them would have to be made again.
+/// Returns the number of lifts that a worker may make at a Go: the budget, but at most a short turn at first and after a
+/// round in which many vertices rose. In such a round most lifts raised a vertex of their own, and much of the work that a
+/// long turn based on them would have to be done again.
 fn lifts(task: &Task<'_>, coordinator: &CoordinatorMap) -> u32 {
     let workers = task.cut().workers() as usize;
     if coordinator.has_begun && coordinator.risen.as_slice().len() / MANY < workers {
@@ -69,7 +70,8 @@ fn lifts(task: &Task<'_>, coordinator: &CoordinatorMap) -> u32 {
     }
 }
 
-/// Sends values, those that rose or, where the worker was set up anew, all; and lets it lift.
+/// Sends values, and then lets the worker lift. The values are those that rose or, if the worker was set up anew, all that
+/// are above zero.
 pub fn query<L: Link>(
     task: &Task<'_>,
     link: &mut L,
@@ -110,7 +112,7 @@ pub fn query<L: Link>(
     send_frame(link, &Frame::Go(go), buffer)
 }
 
-/// Whether a reply ends with this frame: that is a report, and not that of a refusal. Any other frame fails its link.
+/// Checks that a reply ends with this frame: a report that isn't a refusal. Any other frame is a failure of its link.
 fn end(frame: &Frame) -> Result<(), LinkFault>
     ensures ends { (r : Report) → frame.now ≡ frames.Report r → r.status ≢ 2 → result ≡ Ok tt }
     ensures fails { IfErr result (λ e. e ≡ LinkFault.Failed) }
@@ -122,8 +124,8 @@ fn end(frame: &Frame) -> Result<(), LinkFault>
     }
 }
 
-/// Reads one frame of a reply and joins its measures, by a row of as many places as there are bounds. True where the reply ends
-/// with it.
+/// Reads one frame of a reply and joins its measures with the map. The row has a place for each bound. Returns true if the
+/// reply ends with this frame.
 fn receive_and_join<L: Link>(
     task: &Task<'_>,
     link: &mut L,
@@ -168,8 +170,8 @@ fn receive_and_join<L: Link>(
     }
 }
 
-/// Reads a reply to its end and joins its values, by a row of as many places as there are bounds. Where a frame fails the link, and
-/// where the reply is longer than it may be, the frames before stay joined.
+/// Reads a reply to its end and joins its values with the map. The row has a place for each bound. If a frame is a failure
+/// of the link, or the reply has too many frames, the frames before stay joined.
 pub fn receive_reply<L: Link>(
     task: &Task<'_>,
     link: &mut L,

@@ -1,4 +1,4 @@
-//! Values that are sent to a worker.
+//! Sends values to a worker.
 
 ghost use Rattle.std.specs.Prelude.{◌≡◌, ◌≤◌, ◌<◌, ℕ, List, All, Some, length, IfOk, OnOk};
 ghost use Rattle.pg_map.specs.Maps.{MapValue, MapAtMost};
@@ -17,13 +17,13 @@ use std::alloc::AllocError;
 #[derive(Clone, Copy)]
 pub struct Recipient {
     pub worker: u32,
-    /// In which frames it takes values.
+    /// The kind of frames in which it takes values.
     pub kind: ValueKind,
-    /// Whether it has to know vertices of its own part too: those that it didn't send.
+    /// Whether it must also be sent vertices of its own part: those that it didn't send.
     pub own: bool,
 }
 
-/// Whether a worker has to know a vertex.
+/// Whether a worker needs to know the measure of a vertex.
 fn is_for(to: Recipient, task: &Task<'_>, v: Vertex) -> bool
     requires { v < length task.now.game }
 {
@@ -34,7 +34,8 @@ fn is_for(to: Recipient, task: &Task<'_>, v: Vertex) -> bool
     }
 }
 
-/// Writes the measure of a vertex, unless the vertex is below `next` or the frame is full; whether it wrote it.
+/// Writes the measure of a vertex, unless the vertex is below `next` or the frame is full. Returns whether it wrote the
+/// measure.
 fn push_next(
     writer: &mut ValuesWriter,
     next: &mut u64,
@@ -58,8 +59,9 @@ fn push_next(
     Ok(fits)
 }
 
-/// Writes one frame of the measures of those of the vertices that a worker has to know, from the first on, as long as they
-/// rise and it isn't full: how many of the vertices that covers, and whether one was for the worker.
+/// Writes one frame with the measures of those of the vertices that a worker needs to know, from the first one on, as long
+/// as they rise and the frame isn't full. Returns the number of vertices that this covers, and whether one of them was for
+/// the worker.
 fn write_frame(
     to: Recipient,
     task: &Task<'_>,
@@ -86,7 +88,7 @@ fn write_frame(
     Ok((vertices.len(), next > 0))
 }
 
-/// Sends the measures of those of the vertices that a worker has to know.
+/// Sends the measures of those of the vertices that a worker needs to know.
 pub fn send_values<L: Link>(
     to: Recipient,
     task: &Task<'_>,

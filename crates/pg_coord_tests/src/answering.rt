@@ -1,4 +1,4 @@
-//! Replies to a set-up of version 2: one report takes it, one refuses it, and each other is a failure of the link.
+//! Replies to a set-up of version 2: one report accepts it, one refuses it, and every other one is a failure of the link.
 
 use crate::tools::{game, solves};
 use pg_coord::{Link, LinkFault};
@@ -11,7 +11,8 @@ const QUIET: [u8; 7] = [0, 0, 0, 3, 5, 1, 0];
 /// The kind of a set-up.
 const SETUP: u8 = 1;
 
-/// Answers a set-up by a report of its own, and all else by that of a worker that has nothing to lift. It is never Failed.
+/// Answers a set-up with a report of its own, and everything else with the report of a worker that has nothing to lift. It
+/// is never Failed.
 #[derive(Drop)]
 struct Answering {
     report: [u8; 7],
@@ -47,7 +48,8 @@ impl Link for Answering {
     }
 }
 
-/// Reports by status and code, and how many rounds, restarts and links given up there are over a link that answers a set-up by them.
+/// Reports by status and code, and the numbers of rounds, restarts and links given up over a link that answers a set-up
+/// with them.
 static REPORTS: [(u8, u8, (u64, u64, u64)); 5] = [
     (1, 0, (5, 0, 0)),
     (2, 18, (5, 0, 0)),
@@ -56,7 +58,7 @@ static REPORTS: [(u8, u8, (u64, u64, u64)); 5] = [
     (0, 0, (5, 3, 1)),
 ];
 
-/// How many rounds, restarts and links given up there are, over a link that answers a set-up by this report.
+/// Returns the numbers of rounds, restarts and links given up over a link that answers a set-up with this report.
 fn solves_answered(alloc: Global, status: u8, code: u8) -> Result<Option<(u64, u64, u64)>, Fail> {
     let mut links = [Answering {
         report: [0, 0, 0, 3, 5, status, code],

@@ -1,4 +1,4 @@
-//! Links in memory, without and with a limit of rounds, and links in memory of which one call fails.
+//! Links in memory, without and with a limit of rounds, and links in memory with one call that fails.
 
 use crate::tools::{game, solves, solves_within};
 use pg_coord::MemoryLink;
@@ -14,7 +14,8 @@ fn a_link_in_memory_does_the_lifting(rt: HostRuntime) -> Result<(), Fail> {
     Ok(())
 }
 
-/// Whether rounds over these links are given up at once; they can be used all the same, and one round in which measures rise is enough.
+/// Whether rounds over these links are given up at once. The links can still be used, and one round in which measures rise
+/// is enough.
 fn are_given_up_at_once(alloc: Global, links: &mut [MemoryLink]) -> Result<bool, Fail> {
     let game = game(alloc)?;
     let is_given_up = solves_within(alloc, &game, links, 0)?.is_none();
@@ -42,7 +43,7 @@ fn failing_links(alloc: Global, n: u64) -> Result<[FailsOnce<MemoryLink>; 2], Fa
     Ok([FailsOnce::new(first, n), FailsOnce::new(second, u64::MAX)])
 }
 
-/// Solves over the links with one lift a turn. Whether a call of the first was Failed.
+/// Solves over the links with one lift a turn. Returns whether a call of the first one was Failed.
 fn fails(alloc: Global, links: &mut [FailsOnce<MemoryLink>; 2]) -> Result<bool, Fail> {
     let solved = solves(alloc, &game(alloc)?, links, 1)?;
     let failed = links[0].has_failed();
@@ -52,7 +53,7 @@ fn fails(alloc: Global, links: &mut [FailsOnce<MemoryLink>; 2]) -> Result<bool, 
     }
 }
 
-/// Solves over two links in memory where the n-th call of the first is Failed. Whether that call was made.
+/// Solves over two links in memory where the n-th call of the first one is Failed. Returns whether that call was made.
 fn fails_at(alloc: Global, n: u64) -> Result<bool, Fail> {
     let mut links = failing_links(alloc, n)?;
     fails(alloc, &mut links)

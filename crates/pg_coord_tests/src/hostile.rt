@@ -5,7 +5,7 @@ use pg_coord_links_tests::stand_ins::Fixed;
 use std::alloc::Global;
 use std::test::Fail;
 
-/// What is wrong with a frame that answers a Go, the frame, and how often it does so.
+/// What is wrong with a frame that answers a Go, the frame, and the number of times that it does so.
 static REPLIES: [(&str, &[u8], usize); 6] = [
     (
         "a set-up is no reply",
@@ -34,7 +34,7 @@ static REPLIES: [(&str, &[u8], usize); 6] = [
     ),
 ];
 
-/// Whether a link that answers every Go by this frame, so many times, is restarted three times and given up.
+/// Whether a link that answers every Go with this frame, `times` times, is restarted three times and given up.
 fn is_given_up(alloc: Global, frame: &[u8], times: usize) -> Result<bool, Fail> {
     let bytes = Vec::from_slice(alloc, frame)?;
     let mut links = [Fixed::new(alloc, vec![in alloc; bytes]?, times)];

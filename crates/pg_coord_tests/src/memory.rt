@@ -19,7 +19,7 @@ const VALUES: &str = "00000013 03 00000002 00000002 00000000 01 00000001 01";
 
 const QUIET: &str = "00000003 05 01 00";
 
-/// The reports of a frame that was out of turn, and of a version that isn't known.
+/// The reports of a frame that was out of turn, and of an unknown version.
 const ORDER: &str = "00000003 05 02 04";
 
 const VERSION: &str = "00000003 05 02 12";
@@ -32,7 +32,7 @@ fn bytes_of(alloc: Global, text: &str) -> Result<Vec<u8>, Fail> {
     Ok(bytes)
 }
 
-/// Sends these frames, one after the other.
+/// Sends these frames, one after another.
 fn send(alloc: Global, link: &mut MemoryLink, frames: &[&str]) -> Result<(), Fail> {
     for frame in frames {
         link.send(&bytes_of(alloc, frame)?)?;
@@ -40,7 +40,7 @@ fn send(alloc: Global, link: &mut MemoryLink, frames: &[&str]) -> Result<(), Fai
     Ok(())
 }
 
-/// Whether the link hands over these frames, one after the other, and then none.
+/// Whether the link hands over these frames, one after another, and then none.
 fn hands_over(alloc: Global, link: &mut MemoryLink, frames: &[&str]) -> Result<bool, Fail> {
     let mut received = Vec::new(alloc);
     for frame in frames {

@@ -1,4 +1,4 @@
-//! Solving a game of which few vertices rise: workers lift these in one round.
+//! Solves a game in which few vertices rise: workers lift these in one round.
 
 use pg_arena::{Game, GameBuilder, Player};
 use pg_coord::{MemoryLink, solve};
@@ -19,7 +19,7 @@ fn calm_game(alloc: Global) -> Result<Game, Fail> {
     Ok(builder.finish()?)
 }
 
-/// Links in memory are honest, so that the contract of `solve` says that the measures are these.
+/// Links in memory are honest, so the contract of `solve` says that the measures are these.
 #[test]
 fn the_vertices_that_rise_do_so_in_one_round(rt: HostRuntime) -> Result<(), Fail> {
     let alloc = rt.alloc();

@@ -1,11 +1,11 @@
-//! Links to programs that are no workers: one that ends before it connects, and one that isn't there.
+//! Links to programs that are no workers: one that ends before it connects, and one that doesn't exist.
 
 use pg_coord::{Link, LinkFault, Reach, SocketLink};
 use std::alloc::Global;
 use std::test::Fail;
 
-/// Whether each call fails. No program is there before a frame is sent; it is started for that exactly if there is one, and once it was killed
-/// the link still has it.
+/// Whether each call fails. There is no program before a frame is sent; the send starts one exactly if the file exists, and
+/// after it was killed the link still has it.
 fn fails_each_call<R: Reach>(alloc: Global, link: &mut SocketLink<R>, is_there: bool) -> bool {
     let mut frame = Vec::new(alloc);
     let is_idle = link.receive(&mut frame) == Err(LinkFault::Failed) && !link.has_program();

@@ -1,4 +1,4 @@
-//! Solving without links, and over links that are of no help: by rounds of passes over all vertices.
+//! Solves without links, and over links that don't help: by rounds of passes over all vertices.
 
 use crate::tools::{game, solves};
 use pg_arena::{Game, GameBuilder, Player};
@@ -8,7 +8,8 @@ use pg_worker::Cut;
 use std::alloc::Global;
 use std::test::Fail;
 
-/// A chain of a hundred vertices of Even, in which each leads to the next one, and the last one, of the only odd priority, to itself.
+/// Makes a chain of a hundred vertices of Even: each leads to the next one, and the last one, which has the only odd
+/// priority, to itself.
 fn chain(alloc: Global) -> Result<Game, Fail> {
     let mut builder = GameBuilder::new(alloc);
     for number in 0..99 {
@@ -18,8 +19,8 @@ fn chain(alloc: Global) -> Result<Game, Fail> {
     Ok(builder.finish()?)
 }
 
-/// In the first round the last vertex rises to 1, in the next one to top while the one before it rises to 1, and so on: the first one rises
-/// to top in round 101, and nothing rises in round 102.
+/// In the first round the last vertex rises to 1; in the next round it rises to top while the one before it rises to 1, and
+/// so on. The first vertex rises to top in round 101, and nothing rises in round 102.
 #[test]
 fn a_chain_falls_against_the_order(rt: HostRuntime) -> Result<(), Fail> {
     let game = chain(rt.alloc())?;

@@ -1,4 +1,4 @@
-//! A link that tells its replies: what they say is taken, though it is more than the least progress measure.
+//! A link that tells its replies: their values are taken, though they are more than the least progress measure.
 
 use crate::tools::solves;
 use pg_arena::{Game, GameBuilder, Player};
@@ -20,8 +20,8 @@ const SECOND: [u8; 18] = [0, 0, 0, 14, 3, 0, 0, 0, 1, 0, 0, 0, 1, 0, 0, 0, 1, 1]
 /// The report that ends a reply: there is more to lift.
 const MORE: [u8; 7] = [0, 0, 0, 3, 5, 0, 0];
 
-/// The frames that a link tells, one after the other, and how many restarts there are where both vertices come to top by them: there is one
-/// where the last reply was handed over before.
+/// The frames that a link tells, one after another, and the number of restarts if both vertices rise to top by them. There
+/// is one restart if the last reply was handed over before that.
 static TOLD: [(&[&[u8]], u64); 3] = [
     (&[&BOTH, &MORE, &BOTH, &MORE], 0),
     (&[&FIRST, &SECOND, &MORE, &MORE], 0),
@@ -36,7 +36,8 @@ fn second_game(alloc: Global) -> Result<Game, Fail> {
     Ok(builder.finish()?)
 }
 
-/// How many rounds, restarts and links given up there are over a link that tells these frames, where both vertices come to top.
+/// Returns the numbers of rounds, restarts and links given up over a link that tells these frames, if both vertices rise to
+/// top.
 fn solves_told(alloc: Global, frames: &[&[u8]]) -> Result<Option<(u64, u64, u64)>, Fail> {
     let mut replies = Vec::new(alloc);
     for frame in frames {

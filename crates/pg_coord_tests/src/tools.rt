@@ -1,4 +1,4 @@
-//! The game, and how many rounds, restarts and links given up there are until it is solved.
+//! The game, and the numbers of rounds, restarts and links given up until it is solved.
 
 use pg_arena::{Game, GameBuilder, Player, Vertex};
 use pg_coord::{Link, Solved, solve, solve_within};
@@ -7,7 +7,7 @@ use pg_worker::Cut;
 use std::alloc::Global;
 use std::test::Fail;
 
-/// The game.
+/// Makes the game.
 pub fn game(alloc: Global) -> Result<Game, Fail> {
     let mut builder = GameBuilder::new(alloc);
     for (vertex, priority) in [(0, 1), (1, 3)] {
@@ -16,7 +16,7 @@ pub fn game(alloc: Global) -> Result<Game, Fail> {
     Ok(builder.finish()?)
 }
 
-/// How many rounds, restarts and links given up there were, where the map is top at both vertices.
+/// Returns the numbers of rounds, restarts and links given up, if the map is top at both vertices.
 fn counts(solved: &Solved) -> Option<(u64, u64, u64)> {
     let map = &solved.map;
     if map.len() == 2 && map.get(Vertex(0)) == View::Top && map.get(Vertex(1)) == View::Top {
@@ -26,8 +26,8 @@ fn counts(solved: &Solved) -> Option<(u64, u64, u64)> {
     }
 }
 
-/// Solves a game of two vertices over these links, cut evenly: how many rounds, restarts and links given up there were, where
-/// that gives top at both vertices.
+/// Solves a game of two vertices over these links, cut evenly. Returns the numbers of rounds, restarts and links given up,
+/// if the map is top at both vertices.
 pub fn solves<L: Link>(
     alloc: Global,
     game: &Game,
@@ -39,7 +39,8 @@ pub fn solves<L: Link>(
     Ok(counts(&solved))
 }
 
-/// The same within so many rounds in which measures rise; none too if they are given up.
+/// Solves as `solves` does, but with a limit of rounds in which measures rise. Also returns None if the rounds are given
+/// up.
 pub fn solves_within<L: Link>(
     alloc: Global,
     game: &Game,

@@ -32,7 +32,8 @@ Agree shape steps = All (λ s. All (λ t. (s.target ≡ t.target) × (deciding s
 abbrev pub IsDeterministicAt : Automaton → List StateLine → ℕ → ℕ → Type 0
 IsDeterministicAt a lines state letter = Agree a.shape (steps_of lines state letter)
 
--- the bytes spell the automaton: it is deterministic, a step is that of the first edge that matches, and there are no others
+-- the bytes spell the automaton: it is deterministic, each step is that of the first edge that matches, and there are
+-- no others
 pub record Spelt (bytes : List ℕ) (a : Automaton) : Type 0 where
   pub written : Written
   pub text : IsText bytes written
@@ -43,7 +44,7 @@ pub record Spelt (bytes : List ℕ) (a : Automaton) : Type 0 where
       → next a state letter ≡ head (steps_of written.lines state letter)
   pub all : a.steps ≡ rows (next a) a.states (letters a)
 
--- the bytes are a text that is good but for its determinism, which fails at the state and letter and nowhere before
+-- the bytes are a text that is good except for its determinism, which fails at the state and letter and nowhere before
 pub record IsUndetermined (bytes : List ℕ) (state letter : ℕ) : Type 0 where
   pub written : Written
   pub automaton : Automaton
@@ -57,12 +58,12 @@ pub record IsUndetermined (bytes : List ℕ) (state letter : ℕ) : Type 0 where
 
 -- ---- what is refused
 
--- no automaton is spelt
+-- the bytes spell no automaton
 abbrev pub SpellsNone : List ℕ → Type 0
 SpellsNone bytes = (a : Automaton) → Spelt bytes a → ⊥
 
--- For each text memory may run out. NotDeterministic comes where that alone is wrong, and names where; each other
--- fault where more is wrong.
+-- Memory may run out for any text. NotDeterministic comes if nothing else is wrong, and says where; each other fault
+-- comes if something else is wrong.
 abbrev pub IsRefused : List ℕ → HoaFault → Type 0
 IsRefused bytes OutOfMemory = Unit {0}
 IsRefused bytes (NotDeterministic state letter) = IsUndetermined bytes state letter × SpellsNone bytes

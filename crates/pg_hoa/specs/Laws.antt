@@ -3,7 +3,7 @@ use Rattle.std.specs.Prelude.{◌≡◌, ℕ, List}
 use Rattle.pg_hoa_automaton.specs.Automata.{Automaton}
 use Rattle.pg_hoa.specs.AutomatonText.{Spelt, IsUndetermined}
 
--- one text spells one automaton, or else is undetermined first at one state and letter
+-- a text spells at most one automaton, or is first undetermined at one state and letter, but not both
 pub record HasOneReading (bytes : List ℕ) : Type 0 where
   pub automaton : (a b : Automaton) → Spelt bytes a → Spelt bytes b → a ≡ b
   pub conflict : (state letter q l : ℕ) → IsUndetermined bytes state letter → IsUndetermined bytes q l → (state ≡ q) × (letter ≡ l)

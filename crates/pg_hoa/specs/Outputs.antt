@@ -8,21 +8,22 @@ use Rattle.pg_hoa.specs.AutomatonText.{Spelt, IsRefused}
 use Rattle.pg_hoa.specs.declared.outputs.OutputsFault.{OutputsFault}
 use Rattle.pg_hoa.specs.declared.outputs.OutputsFault.TheVariants.{Text, Controlled, NoProposition}
 
--- the proposition of this number goes by one of the names
+-- the proposition of this number has one of the names
 abbrev pub is_named : List (List ℕ) → Automaton → ℕ → Bool
 is_named names a p = list_any (λ name. bytes_eq name (get_or a.propositions p [])) names
 
--- the numbers of the propositions that do
+-- the numbers of the propositions that have one of the names
 abbrev pub outputs : List (List ℕ) → Automaton → List ℕ
 outputs names a = filter (is_named names a) (range_with_len 0 (length a.propositions))
 
--- the same automaton, in which the controller sets these propositions and no others
+-- the same automaton, except that the controller sets the propositions of these names and no others
 abbrev pub with_outputs : List (List ℕ) → Automaton → Automaton
 with_outputs names a =
     record a { controllable = map (λ p. list_any (λ n. n == p) (outputs names a)) (range_with_len 0 (length a.propositions)) }
 
--- The first text spells an automaton that has a proposition of each name, and no header says what the controller sets. The second
--- spells the same automaton, but that the controller sets the propositions of these names.
+-- The first text spells an automaton that has a proposition of each name, and has no header that says what the
+-- controller sets. The second text spells the same automaton, except that the controller sets the propositions of these
+-- names.
 pub record HasOutputs (bytes : List ℕ) (names : List (List ℕ)) (text : List ℕ) : Type 0 where
   pub automaton : Automaton
   pub spelt : Spelt bytes automaton
@@ -36,7 +37,7 @@ pub record IsFirstUnknown (propositions names : List (List ℕ)) (place : ℕ) :
   pub unknown : Contains propositions (get_or names place []) → ⊥
   pub first : (k : ℕ) → k < place → Contains propositions (get_or names k [])
 
--- the text spells an automaton, and says by a header what the controller sets
+-- the text spells an automaton, and has a header that says what the controller sets
 pub record HasControls (bytes : List ℕ) : Type 0 where
   pub automaton : Automaton
   pub spelt : Spelt bytes automaton
@@ -49,7 +50,7 @@ pub record LacksOutput (bytes : List ℕ) (names : List (List ℕ)) (place : ℕ
   pub free : has_header (codes "controllable-AP") spelt.written ≡ false
   pub lacks : IsFirstUnknown automaton.propositions names place
 
--- Why there is no such second text. For each text memory may run out.
+-- Why there is no such second text. Memory may run out for any text.
 abbrev pub RefusesOutputs : List ℕ → List (List ℕ) → OutputsFault → Type 0
 RefusesOutputs bytes names (Text fault) = IsRefused bytes fault
 RefusesOutputs bytes names Controlled = HasControls bytes

@@ -12,7 +12,7 @@ use std::fmt;
 /// the end of the text is the text's length.
 #[derive(Clone, Copy, Debug, PartialEq, Eq)]
 pub enum HoaFault {
-    /// A growth was refused.
+    /// Memory ran out.
     OutOfMemory,
     /// No token begins at this offset, or a comment or string begins there and doesn't end, or the token there isn't
     /// one that may stand there.
@@ -62,7 +62,7 @@ impl fmt::Display for HoaFault {
 
 impl Error for HoaFault {}
 
-/// The fault of a text of `len` bytes, for the reason that the reader of its tokens gives.
+/// Returns the fault of a text of `len` bytes, for the reason given by the reader of its tokens.
 pub fn in_text(refusal: Refusal, len: usize) -> HoaFault
     ensures { result ≡ refusal_in_text len refusal }
 {
@@ -72,7 +72,7 @@ pub fn in_text(refusal: Refusal, len: usize) -> HoaFault
     }
 }
 
-/// The fault of a text of `len` bytes in which this is wrong.
+/// Returns the fault of a text of `len` bytes in which this is wrong.
 fn wrong_in_text(fault: PartFault, len: usize) -> HoaFault
     ensures { result ≡ in_text len fault }
 {
@@ -90,9 +90,9 @@ fn wrong_in_text(fault: PartFault, len: usize) -> HoaFault
 /// Why no table of steps is made.
 #[derive(Clone, Copy)]
 pub enum Conflict {
-    /// A growth was refused.
+    /// Memory ran out.
     Memory,
-    /// Steps of the state by the letter don't agree: the least such state, and its least letter.
+    /// Steps of this state by this letter don't agree. It is the least such state, and its least such letter.
     NotDeterministic(u32, u32),
 }
 

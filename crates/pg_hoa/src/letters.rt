@@ -1,4 +1,4 @@
-//! Which letters a label says yes to: a run of sixteen blocks of sixty-four letters at a time.
+//! The letters to which a label says yes, one run of sixteen blocks of sixty-four letters at a time.
 
 ghost use Rattle.std.specs.Prelude.{◌≡◌, ℕ, ◌+◌, ◌*◌, ◌<◌, ◌≤◌, ◌∷◌, Bool, ◌&&◌, ◌||◌, true, false, if◌then◌else◌};
 ghost use Rattle.std.specs.Prelude.{get_or, bit_and, IfOk, OnOk};
@@ -9,7 +9,7 @@ ghost use Rattle.pg_hoa.specs.Mirrors.Instructions.{fits, execute, Speaks};
 use crate::terms::{Instruction, Term};
 use std::alloc::AllocError;
 
-/// In which letters of the block, of which there are sixty-four, the proposition holds.
+/// Returns the letters of the block, sixty-four of them, in which the proposition holds.
 pub fn mask(block: u32, proposition: u32) -> u64
     requires { block < 1024 }
     ensures { (j : ℕ) → j < 64 → truth result j ≡ on_at block j proposition }
@@ -25,7 +25,7 @@ pub fn mask(block: u32, proposition: u32) -> u64
     }
 }
 
-/// The same for a proposition on which all letters of a block agree.
+/// Returns the letters of the block in which a proposition from 6 on holds. All letters of a block agree on it.
 fn high_mask(block: u32, proposition: u32) -> u64
     requires within { block < 1024 }
     requires high { 6 ≤ proposition }
@@ -38,7 +38,7 @@ fn high_mask(block: u32, proposition: u32) -> u64
     if bit == 1 { u64::MAX } else { 0 }
 }
 
-/// The letters of the block that fit the term.
+/// Returns the letters of the block that fit the term.
 fn block_word(block: u32, term: Term) -> u64
     ensures { (j : ℕ) → truth result j ≡ fits block j term }
 {
@@ -49,14 +49,14 @@ fn block_word(block: u32, term: Term) -> u64
     }
 }
 
-/// Whether a block of the run may have letters that fit.
+/// Whether a block of the run may have letters that fit the term.
 fn may_meet(run: u32, term: Term) -> bool
     ensures { result ≡ false → (k : ℕ) → k < 16 → bit_and (run * 16 + k) term.care ≡ term.value → ⊥ }
 {
     run & u32::from(term.care >> 4) == u32::from(term.value >> 4)
 }
 
-/// The letters of the run that fit the term.
+/// Returns the letters of the run that fit the term.
 fn term_words(run: u32, term: Term) -> [u64; 16]
     requires { run < 64 }
     ensures { (k j : ℕ) → k < 16 → truth_in result k j ≡ fits (run * 16 + k) j term }
@@ -94,7 +94,7 @@ fn add(words: &mut [u64; 16], others: &[u64; 16])
     }
 }
 
-/// The top words, or zeros where there are none.
+/// Takes the top words from the stack and returns them, or returns zeros if the stack is empty.
 fn pop(stack: &mut Vec<[u64; 16]>) -> [u64; 16]
     ensures top { (k j : ℕ) → k < 16 → truth_in result k j ≡ top (truths k j stack.old.items) }
     ensures under { (k j : ℕ) → truths k j stack.new.items ≡ under (truths k j stack.old.items) }
@@ -130,7 +130,7 @@ fn execute(
     Ok(())
 }
 
-/// The letters of a run at which the instructions leave yes. What the stack holds is lost.
+/// Returns the letters of a run at which the instructions leave yes. The stack loses its contents.
 pub fn words_of(
     instructions: &[Instruction],
     run: u32,

@@ -60,7 +60,7 @@ fn has_proposition(automaton: &Automaton, name: &[u8]) -> bool
     false
 }
 
-/// The place of the first name that no proposition has.
+/// Returns the place of the first name that no proposition has, if there is one.
 fn first_unknown(automaton: &Automaton, names: &[&[u8]]) -> Option<usize>
     ensures { MatchOption result (All (λ name. Contains automaton.now.propositions name.now) names.now)
         (IsFirstUnknown automaton.now.propositions (map (λ name. name.now) names.now)) }
@@ -73,14 +73,14 @@ fn first_unknown(automaton: &Automaton, names: &[&[u8]]) -> Option<usize>
     None
 }
 
-/// Whether the proposition goes by one of the names.
+/// Whether the proposition has one of the names.
 fn is_among(names: &[&[u8]], proposition: &[u8]) -> bool
     ensures { result ≡ list_any (λ name. bytes_eq name.now proposition.now) names.now }
 {
     names.iter().any(|name| *name == proposition)
 }
 
-/// Puts a number behind the others, if it is wanted.
+/// Appends a number, if it is wanted.
 fn push_wanted(numbers: &mut Vec<u32>, number: u32, is_wanted: bool) -> Result<(), AllocError>
     ensures { OnOk result (numbers.new.items ≡ numbers.old.items ++ (if is_wanted then number ∷ [] else [])) }
 {
@@ -90,7 +90,7 @@ fn push_wanted(numbers: &mut Vec<u32>, number: u32, is_wanted: bool) -> Result<(
     Ok(())
 }
 
-/// Whether the proposition of this number goes by one of the names.
+/// Whether the proposition of this number has one of the names.
 fn is_named(automaton: &Automaton, names: &[&[u8]], a: u32) -> bool
     requires { a < length automaton.now.propositions }
     ensures { result ≡ is_named (map (λ name. name.now) names.now) automaton.now a }
@@ -98,7 +98,7 @@ fn is_named(automaton: &Automaton, names: &[&[u8]], a: u32) -> bool
     is_among(names, automaton.proposition(a))
 }
 
-/// The numbers of the propositions that go by one of the names.
+/// Returns the numbers of the propositions that have one of the names.
 fn numbers_of(alloc: Global, automaton: &Automaton, names: &[&[u8]]) -> Result<Vec<u32>, AllocError>
     ensures value { IfOk result (λ numbers. numbers.items ≡ outputs (map (λ name. name.now) names.now) automaton.now) }
 {
@@ -119,7 +119,7 @@ pub fn with_outputs(alloc: Global, bytes: &[u8], names: &[&[u8]]) -> Result<Vec<
     ensures refused { IfErr result (RefusesOutputs bytes.now (map (λ name. name.now) names.now)) }
 {
     let automaton = read_automaton(alloc, bytes)?;
-    // what was read once is read again, if there is memory
+    // the text was read once, so reading it again fails only if memory runs out
     match has_header(bytes, CONTROLS) {
         Ok(false) => (),
         Ok(true) => return Err(OutputsFault::Controlled),

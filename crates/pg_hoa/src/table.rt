@@ -24,7 +24,7 @@ use pg_hoa_syntax::{Edge, Op, ReadState};
 use std::alloc::{AllocError, Global};
 use std::collections::BTreeMap;
 
-/// The slots of a state's letters: from the first on, so many blocks of so many letters.
+/// The slots of a state's letters: from `first` on, `blocks` blocks of `width` letters.
 #[derive(Clone, Copy)]
 pub struct Row {
     first: usize,
@@ -32,8 +32,8 @@ pub struct Row {
     width: u32,
 }
 
-/// A step that goes into a row of a table of a shape: where it leads, which of the sets met on the way counts, and these, those of
-/// the state, whose list has this place, and those of the edge.
+/// A step that goes into a row of a table of a shape. It leads to `target`, and `counts` is the set that counts among
+/// those met on the way: `own`, the sets of the state, whose list is at `place`, and `more`, the sets of the edge.
 #[derive(Drop)]
 pub struct Way<'a> {
     shape: Shape,
@@ -45,7 +45,7 @@ pub struct Way<'a> {
     more: &'a [u32],
 }
 
-/// Letters of a state that have a step which leads to this target, where this set counts: bit `j` of word `b` speaks of the slot
+/// Letters of a state that have a step to this target, where this set counts: bit `j` of word `b` speaks of the slot
 /// `first + 64 * b + j`.
 #[derive(Drop)]
 pub struct Covered {
@@ -55,8 +55,8 @@ pub struct Covered {
     words: Vec<u64>,
 }
 
-/// A table that is being filled, where each list of sets is by its place, the first slot whose steps don't agree, or how
-/// many slots there are, and the letters that are covered by edges like the one at hand.
+/// A table that is being filled, with the place of each list of sets, the first slot whose steps don't agree, or the
+/// number of slots if there is none, and the letters that are covered by edges like the current one.
 #[derive(Drop)]
 pub struct Filling {
     slots: Vec<u32>,
@@ -67,14 +67,14 @@ pub struct Filling {
     covered: Covered,
 }
 
-/// Stacks that labels are computed on, kept from label to label.
+/// Stacks for computing labels, kept from label to label.
 #[derive(Drop)]
 struct Stacks {
     instructions: Vec<Instruction>,
     words: Vec<[u64; 16]>,
 }
 
-/// The set that counts.
+/// Returns the set that counts, if there is one.
 fn deciding(shape: Shape, sets: &[u32]) -> Option<u32>
     ensures { result ≡ deciding shape sets.now }
 {
@@ -85,7 +85,7 @@ fn deciding(shape: Shape, sets: &[u32]) -> Option<u32>
     }
 }
 
-/// Whether the same set counts.
+/// Whether the same set counts in both.
 fn same_set(a: Option<u32>, b: Option<u32>) -> bool
     ensures { result ≡ same_set a b }
 {
@@ -96,7 +96,7 @@ fn same_set(a: Option<u32>, b: Option<u32>) -> bool
     }
 }
 
-/// The set that counts, with one more.
+/// Returns the set that counts if one more set is met.
 fn with_set(shape: Shape, counts: Option<u32>, set: u32) -> Option<u32>
     ensures { result ≡ with_set shape counts set }
 {
@@ -110,7 +110,7 @@ fn with_set(shape: Shape, counts: Option<u32>, set: u32) -> Option<u32>
     }
 }
 
-/// The set that counts, with all of these.
+/// Returns the set that counts if all of these sets are met too.
 fn counts_with(shape: Shape, counts: Option<u32>, sets: &[u32]) -> Option<u32>
     ensures { result ≡ with_sets shape counts sets.now }
 {
@@ -121,7 +121,7 @@ fn counts_with(shape: Shape, counts: Option<u32>, sets: &[u32]) -> Option<u32>
     found
 }
 
-/// These sets, each once, the least first.
+/// Returns the sets of both lists, each once and the least first.
 fn sets_of(alloc: Global, own: &[u32], more: &[u32]) -> Result<Vec<u32>, AllocError>
     ensures { IfOk result (λ v. v.items ≡ rising (own.now ++ more.now)) }
 {
@@ -132,14 +132,14 @@ fn sets_of(alloc: Global, own: &[u32], more: &[u32]) -> Result<Vec<u32>, AllocEr
     Ok(sets)
 }
 
-/// Whether the lists are the same; where the answer is no they may be.
+/// Whether the lists are the same. If the answer is no, they may still be.
 fn is_same_list(a: &[u32], b: &[u32]) -> bool
     ensures { result ≡ true → a.now ≡ b.now }
 {
     a == b
 }
 
-/// The place of the list, if it is known.
+/// Returns the place of the list, if it is known.
 fn known_place(filling: &Filling, sets: &[u32]) -> Option<u32>
     ensures { IfSome result (λ place. slice_get (stage filling.now).lists place ≡ Some sets.now) }
 {
@@ -152,7 +152,7 @@ fn known_place(filling: &Filling, sets: &[u32]) -> Option<u32>
     }
 }
 
-/// The place of the list, which is put behind the others if it isn't known.
+/// Returns the place of the list, and appends it to the lists if it isn't known.
 fn place_of(alloc: Global, filling: &mut Filling, sets: Vec<u32>) -> Result<u32, AllocError>
     ensures there { IfOk result (λ place. slice_get (stage filling.new).lists place ≡ Some sets.items) }
     ensures keeps { OnOk result (Extends (stage filling.old) (stage filling.new)) }
@@ -171,7 +171,7 @@ fn place_of(alloc: Global, filling: &mut Filling, sets: Vec<u32>) -> Result<u32,
     Ok(place as u32)
 }
 
-/// The place of the list of the way's sets. Where the edge has none of its own it is known.
+/// Returns the place of the list of the way's sets. If the edge has no sets of its own, that place is known.
 fn list_of(alloc: Global, filling: &mut Filling, way: &Way<'_>) -> Result<u32, AllocError>
     requires placed { IsPlaced (stage filling.old) way.now }
     ensures there { IfOk result (λ place. slice_get (stage filling.new).lists place ≡ Some (way_step way.now).sets) }
@@ -184,7 +184,7 @@ fn list_of(alloc: Global, filling: &mut Filling, way: &Way<'_>) -> Result<u32, A
     place_of(alloc, filling, sets)
 }
 
-/// The number of a new step.
+/// Stores the way's step as a new one, and returns its number.
 fn store(alloc: Global, filling: &mut Filling, way: &Way<'_>) -> Result<u32, AllocError>
     requires placed { IsPlaced (stage filling.old) way.now }
     ensures there { IfOk result (λ number. numbered (stage filling.new).steps (stage filling.new).lists number
@@ -203,7 +203,7 @@ fn store(alloc: Global, filling: &mut Filling, way: &Way<'_>) -> Result<u32, All
     Ok(number as u32)
 }
 
-/// Whether the step agrees with that in the slot, if one is there.
+/// Whether the step agrees with the one in the slot, if there is one.
 fn compared(filling: &Filling, way: &Way<'_>, slot: usize) -> Option<bool>
     requires decided { IsDecided way.now }
     requires within { slot < length filling.now.slots.items }
@@ -214,7 +214,7 @@ fn compared(filling: &Filling, way: &Way<'_>, slot: usize) -> Option<bool>
     Some(target == way.target && same_set(deciding(way.shape, sets), way.counts))
 }
 
-/// Gives the step to the slot. The step's number, or 0 while it has none, goes in and out.
+/// Gives the step to the slot. Takes and returns the number of the step, or 0 while it has none.
 fn place(
     alloc: Global,
     filling: &mut Filling,
@@ -251,7 +251,7 @@ fn place(
     }
 }
 
-/// Gives the step to the slots that stand at the bits of the word.
+/// Gives the step to the slots at the bits of the word.
 fn place_word(
     alloc: Global,
     filling: &mut Filling,
@@ -286,7 +286,7 @@ fn place_word(
     Ok(number)
 }
 
-/// Whether the letters that are covered are those of the way's state and key; where the answer is no they may be.
+/// Whether the covered letters are those of the way's state and key. If the answer is no, they may still be.
 fn is_of(covered: &Covered, way: &Way<'_>) -> bool
     ensures { result ≡ true → IsOf covered.now way.now }
 {
@@ -301,7 +301,7 @@ fn clear(words: &mut [u64])
     words.fill(0);
 }
 
-/// Begins with no letter covered, where the way's state or key is another than the last one's.
+/// Starts with no letter covered, if the way's state or key differs from the last one's.
 fn begin(filling: &mut Filling, way: &Way<'_>)
     ensures { Adds way.now.shape (λ i. []) (stage filling.old) (stage filling.new) }
 {
@@ -313,7 +313,7 @@ fn begin(filling: &mut Filling, way: &Way<'_>)
     }
 }
 
-/// Letters of the block that have such a step already.
+/// Returns letters of the block that have a step of the way's key already.
 fn covered_word(filling: &Filling, way: &Way<'_>, block: u32) -> u64
     ensures { (j : ℕ) → j < 64 → truth result j ≡ true → IsCovered way.now (stage filling.now) (way.now.row.first + (block * 64 + j)) }
 {
@@ -325,7 +325,8 @@ fn covered_word(filling: &Filling, way: &Way<'_>, block: u32) -> u64
     }
 }
 
-/// Notes that the letters of the block that stand at the bits of the word have such a step, which they were given last.
+/// Notes that the letters of the block at the bits of the word have a step of the way's key, which they were given
+/// last.
 fn cover(filling: &mut Filling, way: &Way<'_>, block: u32, word: u64)
     requires { IsDecided way.now }
     ensures adds { (t : Stage) → Adds way.now.shape
@@ -341,7 +342,7 @@ fn cover(filling: &mut Filling, way: &Way<'_>, block: u32, word: u64)
     }
 }
 
-/// Gives the step to the slots of the block that stand at the bits of the word.
+/// Gives the step to the slots of the block at the bits of the word.
 fn place_block(
     alloc: Global,
     filling: &mut Filling,
@@ -370,14 +371,15 @@ fn place_block(
     Ok(number)
 }
 
-/// Whether each bit of the word is one of the other too.
+/// Whether each bit of the word is also a bit of the other one.
 fn is_within(word: u64, known: u64) -> bool
     ensures { result ≡ true → (j : ℕ) → j < 64 → truth word j ≡ true → truth known j ≡ true }
 {
     word & !known == 0
 }
 
-/// Whether all letters of the run that stand at the bits of the words have such a step; where the answer is no they may.
+/// Whether all letters of the run at the bits of the words have a step of the way's key. If the answer is no, they may
+/// still have one.
 fn are_covered(filling: &Filling, way: &Way<'_>, run: u32, words: &[u64; 16]) -> bool
     ensures { result ≡ true → (k j : ℕ) → k < 16 → j < 64 → truth_in words.now k j ≡ true
         → IsCovered way.now (stage filling.now) (way.now.row.first + ((run * 16 + k) * 64 + j)) }
@@ -394,7 +396,7 @@ fn are_covered(filling: &Filling, way: &Way<'_>, run: u32, words: &[u64; 16]) ->
     true
 }
 
-/// Gives the step to the slots of the run that stand at the bits of the words.
+/// Gives the step to the slots of the run at the bits of the words.
 fn place_run(
     alloc: Global,
     filling: &mut Filling,
@@ -426,7 +428,7 @@ fn place_run(
     Ok(number)
 }
 
-/// How many blocks of letters there are, and how many letters a block has.
+/// Returns the number of blocks of letters, and the number of letters in a block.
 fn blocks_of(propositions: u32) -> (u32, u32)
     requires { propositions ≤ 16 }
     ensures { IsSplit propositions result.0 result.1 }
@@ -467,7 +469,8 @@ fn add_edge(
     Ok(())
 }
 
-/// Where the edge leads, and the set that counts there, where without its sets it is the given one.
+/// Returns the state that the edge leads to, and the set that counts on the edge, if without the edge's sets it is
+/// `counts`.
 fn key_of(shape: Shape, counts: Option<u32>, edge: &Edge) -> (u32, Option<u32>)
     ensures { result ≡ (edge.now.target, with_sets shape counts edge.now.sets.items) }
 {
@@ -475,7 +478,8 @@ fn key_of(shape: Shape, counts: Option<u32>, edge: &Edge) -> (u32, Option<u32>)
     (edge.target, counts)
 }
 
-/// The edges of a state whose own sets leave this one to count, those of one key side by side and in their order.
+/// Returns the edges of a state, with the edges of one key side by side and in their order. `counts` is the set that
+/// counts among the state's own sets.
 fn regrouped<'a>(
     alloc: Global,
     shape: Shape,
@@ -534,8 +538,8 @@ fn add_line(
     Ok(())
 }
 
-/// The table of the steps that the lines give, for states below the first number, if the steps of each state and letter
-/// agree; else the least state where they don't, and the least such letter there.
+/// Returns the table of the steps that the lines give, for states below `states`, if the steps of each state and letter
+/// agree. Otherwise it fails with the least state where they don't, and the least such letter there.
 pub fn table_of(
     alloc: Global,
     shape: Shape,

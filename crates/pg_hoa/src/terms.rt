@@ -1,4 +1,4 @@
-//! Labels with their literals put together: a product of literals becomes one term, which is looked at once.
+//! Labels with their literals combined: a product of literals becomes one term, which is evaluated once.
 
 ghost use Rattle.std.specs.Prelude.{◌≡◌, ℕ, ◌<◌, ◌++◌, Bool, ◌&&◌, ◌||◌, true, false, List, [], ◌∷◌, if◌then◌else◌, IfSome, OnOk, IfNone};
 ghost use Rattle.pg_hoa.specs.declared.terms.Instruction.TheVariants.{Put};
@@ -10,7 +10,7 @@ use crate::letters::mask;
 use pg_hoa_syntax::Op;
 use std::alloc::AllocError;
 
-/// Letters at the bits of the word, in the blocks whose number has at the bits of `care` what `value` has.
+/// The letters at the bits of `word`, in the blocks whose number, masked by `care`, is `value`.
 #[derive(Clone, Copy)]
 pub struct Term {
     pub word: u64,
@@ -18,24 +18,25 @@ pub struct Term {
     pub value: u16,
 }
 
-/// What a part of a label does to a stack of truths.
+/// The effect of a part of a label on a stack of truths.
 #[derive(Clone, Copy)]
 pub enum Instruction {
-    /// Puts there whether the letter fits the term.
+    /// Pushes whether the letter fits the term.
     Put(Term),
     Not,
     Both,
     Either,
-    /// The top, and that the letter fits.
+    /// Replaces the top by whether it is true and the letter fits the term.
     BothTerm(Term),
-    /// The top, or that the letter fits.
+    /// Replaces the top by whether it is true or the letter fits the term.
     EitherTerm(Term),
 }
 
-/// So many terms of a sum are looked at for one of the same blocks, besides the last. Literals alone make at most 21 different ones.
+/// The number of terms of a sum, besides the last, that are searched for one that speaks of the same blocks. Literals
+/// alone make at most 21 different ones.
 const FURTHER_TERMS: u32 = 31;
 
-/// These letters in each block.
+/// Returns the term of these letters in each block.
 fn whole(word: u64) -> Term
     ensures { (b j : ℕ) → fits b j result ≡ truth word j }
 {
@@ -46,7 +47,7 @@ fn whole(word: u64) -> Term
     }
 }
 
-/// The letters in which the proposition holds.
+/// Returns the term of the letters in which the proposition holds.
 fn literal(proposition: u32) -> Term
     ensures { (b j : ℕ) → b < 1024 → j < 64 → fits b j result ≡ on_at b j proposition }
 {
@@ -64,7 +65,7 @@ fn literal(proposition: u32) -> Term
     }
 }
 
-/// The letters that don't fit, where a term can say it.
+/// Returns the term of the letters that don't fit, if one term can say it.
 fn negated(term: Term) -> Option<Term>
     ensures { IfSome result (λ t. (b j : ℕ) → j < 64 → fits b j t ≡ (if fits b j term then false else true)) }
 {
@@ -87,7 +88,7 @@ fn negated(term: Term) -> Option<Term>
     None
 }
 
-/// The letters that fit both, where a term can say it.
+/// Returns the term of the letters that fit both terms, if one term can say it.
 fn joined(left: Term, right: Term) -> Option<Term>
     ensures { IfSome result (λ t. (b j : ℕ) → fits b j t ≡ (fits b j left && fits b j right)) }
 {
@@ -102,7 +103,7 @@ fn joined(left: Term, right: Term) -> Option<Term>
     None
 }
 
-/// Adds the letters of the other, if both speak of the same blocks.
+/// Adds the letters of the other term, if both speak of the same blocks. Returns whether it did.
 fn add_letters(term: &mut Term, other: Term) -> bool
     ensures added { result ≡ true → (b j : ℕ) → fits b j term.new ≡ (fits b j term.old || fits b j other) }
     ensures kept { result ≡ false → term.new ≡ term.old }
@@ -114,7 +115,7 @@ fn add_letters(term: &mut Term, other: Term) -> bool
     true
 }
 
-/// Takes the last of the instructions, if it puts a term.
+/// Removes the last instruction and returns its term, if it puts one.
 fn take_term(instructions: &mut Vec<Instruction>) -> Option<Term>
     ensures some { IfSome result (λ t. instructions.old.items ≡ instructions.new.items ++ (Put t ∷ [])) }
     ensures none { IfNone result (instructions.new.items ≡ instructions.old.items) }
@@ -168,8 +169,8 @@ fn put_both(instructions: &mut Vec<Instruction>) -> Result<(), AllocError>
     Ok(())
 }
 
-/// Adds the letters of the term to the last term of the sum that the instructions end in, or to one of at most so many further ones before
-/// it, if one speaks of the same blocks.
+/// Adds the letters of the term to the last term of the sum at the end of the instructions, or to one of at most
+/// `further` terms before that, if one speaks of the same blocks. Returns whether it did.
 fn add_to_sum(instructions: &mut [Instruction], term: Term, further: u32) -> bool
     ensures added { result ≡ true → (b j : ℕ) → executed instructions.new b j
         ≡ (top (executed instructions.old b j) || fits b j term) ∷ under (executed instructions.old b j) }
@@ -201,7 +202,7 @@ fn put_either(instructions: &mut Vec<Instruction>) -> Result<(), AllocError>
     Ok(())
 }
 
-/// Puts what the operation does behind the instructions.
+/// Adds the effect of the operation to the instructions.
 fn put(op: Op, instructions: &mut Vec<Instruction>) -> Result<(), AllocError>
     ensures { OnOk result ((b j : ℕ) → b < 1024 → j < 64
         → executed instructions.new.items b j ≡ perform op (on_at b j) (executed instructions.old.items b j)) }
@@ -222,7 +223,7 @@ fn put(op: Op, instructions: &mut Vec<Instruction>) -> Result<(), AllocError>
     Ok(())
 }
 
-/// The instructions of the label, in place of those that were there.
+/// Replaces the instructions with those of the label.
 pub fn instructions_of(label: &[Op], instructions: &mut Vec<Instruction>) -> Result<(), AllocError>
     ensures { OnOk result (Tells label.now instructions.new.items) }
 {

@@ -7,7 +7,7 @@ use Rattle.pg_hoa_automaton.specs.Shapes.{FitsShape}
 use Rattle.pg_hoa_automaton.specs.declared.shape.Shape.{Shape}
 use Rattle.pg_hoa_automaton.specs.declared.shape.Shape.TheVariants.{MinEven, MinOdd}
 
--- where a letter leads, and the sets met on the way, the least first
+-- the state that a letter leads to, and the sets met on the way, the least first
 pub record Step : Type 0 where
   pub target : ℕ
   pub sets : List ℕ
@@ -23,7 +23,7 @@ pub record Automaton : Type 0 where
   pub propositions : List (List ℕ)
   -- for each proposition, whether the controller sets it
   pub controllable : List Bool
-  -- how many sets there are
+  -- the number of sets
   pub sets : ℕ
   pub shape : Shape
   -- for each state, and for each letter, the step if there is one
@@ -32,15 +32,15 @@ pub record Automaton : Type 0 where
 abbrev pub letters : Automaton → ℕ
 letters a = 2 ^ length a.propositions
 
--- a function of a state and a letter as lists, for numbers below these
+-- a function of a state and a letter as lists, for states and letters below these numbers
 abbrev pub rows : {A : Type 0} → (ℕ → ℕ → A) → ℕ → ℕ → List (List A)
 rows f states letters = map (λ state. map (f state) (range_with_len 0 letters)) (range_with_len 0 states)
 
--- where a letter leads from a state
+-- the step by a letter from a state, if there is one
 abbrev pub next : Automaton → ℕ → ℕ → Option Step
 next a state letter = get_or (get_or a.steps state []) letter None
 
--- the greatest number of rising ones
+-- the greatest of numbers that rise
 abbrev pub last : List ℕ → Option ℕ
 last [] = None
 last (n ∷ []) = Some n
@@ -63,7 +63,8 @@ IsNameByte b = (32 ≤ b) × (b ≢ 127)
 abbrev pub IsPropositionName : List ℕ → Type 0
 IsPropositionName name = (name ≢ []) × AllByRecursion IsNameByte name
 
--- it leads to one of so many states, and the sets met are among so many, the least first and each once
+-- the step leads to a state below the given number, and the sets met are below the given number, the least first and
+-- each once
 pub record IsStepOf (states sets : ℕ) (step : Step) : Type 0 where
   pub target_below : step.target < states
   pub sets_below : All (λ s. s < sets) step.sets
@@ -72,8 +73,8 @@ pub record IsStepOf (states sets : ℕ) (step : Step) : Type 0 where
 abbrev pub HasGoodSteps : Automaton → Type 0
 HasGoodSteps a = (state letter : ℕ) (step : Step) → state < a.states → letter < letters a → next a state letter ≡ Some step → IsStepOf a.states a.sets step
 
--- a run begins at a state and goes on to states, each proposition has a name and is the controller's or not, some condition
--- over the sets is of the shape, and all is within the limits
+-- a run begins at a state and goes on to states, each proposition has a name and is set by the controller or not, some
+-- condition over the sets has the shape, and everything is within the limits
 pub record IsAutomaton (a : Automaton) : Type 0 where
   pub start_below : a.start < a.states
   pub steps : HasGoodSteps a

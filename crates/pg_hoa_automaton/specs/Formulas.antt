@@ -12,7 +12,7 @@ pub data Formula : Type 0 where
   either : Formula → Formula → Formula
   bracket : Formula → Formula
 
--- whether a label holds where just these propositions do, and a condition where just these sets recur
+-- whether a label holds if exactly these propositions do, and a condition if exactly these sets recur
 abbrev pub holds : Formula → (ℕ → Bool) → Bool
 holds yes on = true
 holds no on = false

@@ -7,7 +7,8 @@ use Rattle.pg_hoa_automaton.specs.declared.shape.Shape.TheVariants.{MaxEven, Max
 abbrev pub is_even : ℕ → Bool
 is_even k = k % 2 == 0
 
--- a set of the good parity has to recur, or else what the other sets decide; one of the other parity must not recur, and what they decide
+-- a set of the good parity recurs, or else the other sets decide; a set of the other parity doesn't recur, and the
+-- other sets decide
 abbrev pub decides : Bool → ℕ → Formula → Formula
 decides good k others = if good then either (inf k) others else both (fin k) others
 
@@ -23,7 +24,7 @@ abbrev pub max_odd : ℕ → Formula
 max_odd zero = fin 0
 max_odd (suc k) = decides (is_even k) (suc k) (max_odd k)
 
--- the sets from k up to k + more, likewise
+-- the sets from k up to k + more, where the even ones are good, and where the odd ones are
 abbrev pub min_even : ℕ → ℕ → Formula
 min_even k zero = leaf (is_even k) k
 min_even k (suc more) = decides (is_even k) k (min_even (suc k) more)
@@ -32,7 +33,7 @@ abbrev pub min_odd : ℕ → ℕ → Formula
 min_odd k zero = leaf (is_even (suc k)) k
 min_odd k (suc more) = decides (is_even (suc k)) k (min_odd (suc k) more)
 
--- the condition of a shape over so many sets
+-- the condition of a shape over the given number of sets
 abbrev pub condition_of : Shape → ℕ → Option Formula
 condition_of MaxEven (suc k) = Some (max_even k)
 condition_of MaxOdd (suc k) = Some (max_odd k)
@@ -42,7 +43,7 @@ condition_of Always zero = Some yes
 condition_of Never zero = Some no
 condition_of _ _ = None
 
--- of the sets below so many, none recurs
+-- none of the sets below the given number recurs
 abbrev pub NoneRecurs : (ℕ → Bool) → ℕ → Type 0
 NoneRecurs on sets = (k : ℕ) → k < sets → on k ≡ false
 
@@ -65,7 +66,7 @@ Accepts MinOdd sets on = ((k : ℕ) × IsLeast on sets k × (k % 2 ≡ 1)) ⊎ (
 Accepts Always sets on = Unit {0}
 Accepts Never sets on = ⊥
 
--- without brackets
+-- the formula without brackets
 abbrev pub bare : Formula → Formula
 bare (not f) = not (bare f)
 bare (both f g) = both (bare f) (bare g)
@@ -83,7 +84,7 @@ IsLike (both f g) h = (a : Formula) × (b : Formula) × (h ≡ both a b) × ((Is
 IsLike (either f g) h = (a : Formula) × (b : Formula) × (h ≡ either a b) × ((IsLike f a × IsLike g b) ⊎ (IsLike f b × IsLike g a))
 IsLike f h = h ≡ f
 
--- the written condition is of the shape, up to the order of operands and brackets
+-- the written condition has the shape, up to the order of operands and brackets
 abbrev pub FitsShape : Formula → ℕ → Shape → Type 0
 FitsShape written sets shape = (f : Formula) × (condition_of shape sets ≡ Some f) × IsLike f (bare written)
 

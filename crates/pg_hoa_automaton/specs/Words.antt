@@ -32,11 +32,11 @@ step_at a word t = step_from a (state_after a word t) (word t)
 abbrev pub SetRecurs : Automaton → (ℕ → ℕ) → ℕ → Type 0
 SetRecurs a word set = ¬ ((t : ℕ) × ((u : ℕ) → t ≤ u → ¬ Contains (sets_of (step_at a word u)) set))
 
--- the collection holds just the sets that recur
+-- the collection holds exactly the sets that recur
 abbrev pub HoldsRecurring : Automaton → (ℕ → ℕ) → (ℕ → Bool) → Type 0
 HoldsRecurring a word recurs = (set : ℕ) → set < a.sets → IsTrue (recurs set) ↔ SetRecurs a word set
 
--- the run never ends, and the condition is true of every collection that holds just the sets that recur
+-- the run never ends, and the condition is true of every collection that holds exactly the sets that recur
 pub record IsAccepted (a : Automaton) (condition : Formula) (word : ℕ → ℕ) : Type 0 where
   pub endless : (t : ℕ) → IsSome (state_after a word t)
   pub satisfied : (recurs : ℕ → Bool) → HoldsRecurring a word recurs → IsTrue (holds condition recurs)

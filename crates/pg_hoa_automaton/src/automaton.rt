@@ -58,7 +58,7 @@ impl Automaton {
         }
     }
 
-    /// The number of states, from 1 to 65,535.
+    /// Returns the number of states, from 1 to 65,535.
     pub fn states(&self) -> u32
         ensures value { result ≡ self.now.states }
         ensures automaton { IsAutomaton self.now }
@@ -66,21 +66,21 @@ impl Automaton {
         self.table.states()
     }
 
-    /// The state in which runs start.
+    /// Returns the state in which runs start.
     pub fn start(&self) -> u32
         ensures { result ≡ self.now.start }
     {
         self.start
     }
 
-    /// The number of propositions, at most 16.
+    /// Returns the number of propositions, at most 16.
     pub fn propositions(&self) -> u32
         ensures { result ≡ length self.now.propositions }
     {
         self.names.len() as u32
     }
 
-    /// The name of proposition `a`. It has at least one byte, and no byte below 32 and no byte 127.
+    /// Returns the name of proposition `a`. It has at least one byte, and no byte below 32 and no byte 127.
     pub fn proposition(&self, a: u32) -> &[u8]
         requires { a < length self.now.propositions }
         ensures { result.now ≡ get_or self.now.propositions a result.now }
@@ -96,24 +96,25 @@ impl Automaton {
         self.controllable[a as usize]
     }
 
-    /// The number of acceptance sets, at most 4,096.
+    /// Returns the number of acceptance sets, at most 4,096.
     pub fn sets(&self) -> u32
         ensures { result ≡ self.now.sets }
     {
         self.sets
     }
 
-    /// The state to which the letter leads from the given state, and the sets that the step meets, in rising order:
-    /// those of the state and those of the first matching edge in the text. None if no edge matches.
+    /// Returns the state to which the letter leads from the given state, and the sets that the step meets, in rising
+    /// order: those of the state and those of the first matching edge in the text. None if no edge matches, or if there
+    /// is no such state or letter.
     pub fn next(&self, state: u32, letter: u32) -> Option<(u32, &[u32])>
         ensures { option_map (λ x. step x.0 x.1.now) result ≡ next self.now state letter }
     {
         self.table.next(state, letter)
     }
 
-    /// The shape of the acceptance condition. A condition of this shape, such as the one in the text, holds for a
-    /// collection of sets if and only if the least or greatest set in it has the parity of the shape, or the collection
-    /// is empty and the shape accepts that.
+    /// Returns the shape of the acceptance condition. A condition of this shape, such as the one in the text, holds for
+    /// a collection of sets if and only if the least or greatest set in it has the parity of the shape, or the
+    /// collection is empty and the shape accepts that.
     pub fn shape(&self) -> Shape
         ensures value { result ≡ self.now.shape }
         ensures says { (condition : Formula) (recurs : ℕ → Bool) → FitsShape condition self.now.sets result

@@ -4,15 +4,15 @@ ghost use Rattle.std.specs.Prelude.{◌≡◌, map, option_map};
 ghost use Rattle.pg_hoa_automaton.specs.Automata.{step};
 ghost use Rattle.pg_hoa_automaton.specs.Mirrors.Tables.{numbered, next};
 
-/// A step: where it leads, and the place of its list of sets.
+/// A step: the state that it leads to, and the place of its list of sets.
 #[derive(Clone, Copy, Debug)]
 pub struct Stored {
     pub target: u32,
     pub list: u32,
 }
 
-/// For each state and letter the step, if there is one: its number, counted from 1, stands at
-/// `state * letters + letter`, or else 0.
+/// The steps by state and letter. The slot `state * letters + letter` has the number of the step in `steps`, counted
+/// from 1, or 0 if there is none. The sets of a step are at its place in `lists`.
 #[derive(Debug, Drop)]
 pub struct Table {
     pub states: u32,
@@ -22,7 +22,8 @@ pub struct Table {
     pub lists: Vec<Vec<u32>>,
 }
 
-/// The step with the number, counted from 1.
+/// Returns where the step with this number, counted from 1, leads, and its list of sets. None for 0, and if there is no
+/// step with this number or no list at its place.
 pub fn numbered<'a>(
     steps: &[Stored],
     lists: &'a [Vec<u32>],
@@ -39,14 +40,15 @@ pub fn numbered<'a>(
 }
 
 impl Table {
-    /// How many states it has.
+    /// Returns the number of states.
     pub fn states(&self) -> u32
         ensures { result ≡ self.now.states }
     {
         self.states
     }
 
-    /// Where the letter leads from the state, and the sets met on the way, the least first; or that there is no step.
+    /// Returns the state to which the letter leads from the given state, and the sets met on the way, the least first.
+    /// None if there is no step.
     pub fn next(&self, state: u32, letter: u32) -> Option<(u32, &[u32])>
         ensures { option_map (λ x. step x.0 x.1.now) result ≡ next self.now state letter }
     {

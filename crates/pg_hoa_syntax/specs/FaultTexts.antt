@@ -1,4 +1,4 @@
--- The names of what is left out.
+-- The names of the parts of HOA v1 that the reader doesn't support.
 use Rattle.std.specs.Prelude.{ℕ, List, codes}
 use Rattle.pg_hoa_syntax.specs.declared.fault.LeftOutName.{LeftOutName}
 use Rattle.pg_hoa_syntax.specs.declared.fault.LeftOutName.TheVariants.{Alias, StateLabel, ImplicitLabel, Universal, SeveralStarts, NoStart}

@@ -30,7 +30,7 @@ IsGrouped (either f g) = (rank g ≤ 1) × IsGrouped f × IsGrouped g
 IsGrouped (bracket f) = IsGrouped f
 IsGrouped _ = Unit {0}
 
--- the most brackets and `!` round one place
+-- the greatest number of brackets and `!` around one place
 abbrev pub nesting : Formula → ℕ
 nesting (not f) = 1 + nesting f
 nesting (bracket f) = 1 + nesting f
@@ -38,7 +38,8 @@ nesting (both f g) = max (nesting f) (nesting g)
 nesting (either f g) = max (nesting f) (nesting g)
 nesting _ = 0
 
--- a label speaks of propositions, of which there are so many, and has `!`; a condition speaks of so many sets
+-- a label speaks of propositions below the given number, and may have `!`; a condition speaks of sets below the given
+-- number
 abbrev pub IsOf : Kind → Formula → Type 0
 IsOf (Label n) (inf s) = ⊥
 IsOf (Label n) (fin s) = ⊥
@@ -53,7 +54,7 @@ IsOf k (either f g) = IsOf k f × IsOf k g
 IsOf k (bracket f) = IsOf k f
 IsOf k _ = Unit {0}
 
--- how the formula is written, with at most 8,192 brackets and `!` round one place
+-- the formula can be written: it is grouped well, of the kind, and has at most 8,192 brackets and `!` around one place
 pub record IsWritten (kind : Kind) (f : Formula) : Type 0 where
   pub grouped : IsGrouped f
   pub of_kind : IsOf kind f

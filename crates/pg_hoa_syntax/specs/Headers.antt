@@ -17,6 +17,6 @@ header_name (skipped name values) = name
 abbrev pub has_header : List ℕ → Written → Bool
 has_header name w = list_any (λ h. bytes_eq (header_name h) name) w.headers
 
--- the same text, with a header ahead of the others by which the controller sets these propositions
+-- the same text with one more header, before the others, by which the controller sets these propositions
 abbrev pub with_controls : List ℕ → Written → Written
 with_controls ns w = record { headers = controllable ns ∷ w.headers; lines = w.lines }

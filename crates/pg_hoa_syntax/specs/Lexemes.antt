@@ -4,7 +4,7 @@ use Rattle.std.specs.Prelude.{Some, None, codes, if◌then◌else◌}
 use Rattle.std.specs.List.{flat_map, AllByRecursion}
 use Rattle.pg_list_lemmas.specs.Bytes.{is_digit, Each, Stops, value_of}
 
--- a byte of a string: as it stands, or behind a backslash
+-- a byte of a string: by itself, or after a backslash
 pub data Character : Type 0 where
   plain : ℕ → Character
   escaped : ℕ → Character
@@ -56,7 +56,7 @@ IsCharacter (escaped b) = Unit {0}
 abbrev pub is_colon : ℕ → Bool
 is_colon b = b == 58
 
--- The bytes of one token, and what may stand behind it: a run is a longest one. Nothing spells `stray`.
+-- The bytes of one token, and the bytes that may follow it: a run is as long as possible. Nothing spells `stray`.
 abbrev pub IsSpelt : Lexeme → List ℕ → List ℕ → Type 0
 IsSpelt (number n) text rest = (text ≢ []) × Each is_digit text × Stops is_digit rest × (value_of text ≡ n) × (n < 2 ^ 32)
 IsSpelt (identifier w) text rest = IsName text × Stops is_inner rest × Stops is_colon rest × (text ≡ w)
@@ -77,7 +77,8 @@ IsSpelt ampersand text rest = text ≡ codes "&"
 IsSpelt bar text rest = text ≡ codes "|"
 IsSpelt stray text rest = ⊥
 
--- behind as many comments as are open: inside, each `/*` opens one more and each `*/` ends one; 8,192 may be open at once
+-- the bytes after all comments, where the given number is open: inside, each `/*` opens one more and each `*/` ends
+-- one; 8,192 may be open at once
 abbrev pub after_comments : ℕ → List ℕ → Option (List ℕ)
 after_comments zero bytes = Some bytes
 after_comments (suc deep) [] = None
@@ -87,7 +88,7 @@ after_comments (suc deep) (b ∷ c ∷ bytes) =
     else (if b == 42 && c == 47 then after_comments deep bytes
     else after_comments (suc deep) (c ∷ bytes))
 
--- what may stand between tokens
+-- what may come between tokens
 pub data Blank : Type 0 where
   space : ℕ → Blank
   comment : List ℕ → Blank
@@ -108,7 +109,7 @@ pub record Begins (bytes : List ℕ) (token : Lexeme) (rest : List ℕ) : Type 0
   pub blank : AllByRecursion IsBlank gap
   pub spelt : IsSpelt token text rest
 
--- the bytes are these tokens one after another, with blanks before, between and behind them
+-- the bytes are these tokens one after another, with blanks before, between and after them
 abbrev pub Spells : List ℕ → List Lexeme → Type 0
 Spells bytes [] = (gap : List Blank) × (bytes ≡ flat_map blank_bytes gap) × AllByRecursion IsBlank gap
 Spells bytes (token ∷ tokens) = (rest : List ℕ) × Begins bytes token rest × Spells rest tokens

@@ -1,4 +1,5 @@
--- What mirrors code: contracts of private functions cite it, and no definition that a reader has to believe does.
+-- Definitions that mirror code: contracts of private functions cite them, and no definition that a reader has to
+-- believe does.
 pub mod BodyScan
 pub mod FormulaRun
 pub mod FormulaScan

@@ -1,4 +1,4 @@
--- What an automaton text is, by tokens, and what it says of an automaton.
+-- What an automaton text is, token by token, and what it says of an automaton.
 use Rattle.std.specs.Prelude.{◌≡◌, ◌≢◌, ℕ, suc, ◌*◌, ◌^◌, ◌<◌, ◌≤◌, true, ◌||◌, ◌==◌, nat_le, max, List, [], ◌∷◌, ◌++◌, length, map, Option}
 use Rattle.std.specs.Prelude.{Some, None, codes, get_or, Contains}
 use Rattle.std.specs.List.{fold, flat_map, list_any, AllByRecursion, All, range_with_len}
@@ -38,7 +38,7 @@ header_lexemes (acceptance n f) = header (codes "Acceptance") ∷ number n ∷ f
 header_lexemes (controllable ns) = header (codes "controllable-AP") ∷ map number ns
 header_lexemes (skipped name values) = header name ∷ map value_lexeme values
 
--- a condition is a well written one; a name that is skipped begins with a lower-case letter or `_`
+-- a condition is well written; the name of a header that is skipped begins with a lower-case letter or `_`
 abbrev pub IsHeader : Header → Type 0
 IsHeader (acceptance n f) = IsWritten (Condition n) f
 IsHeader (skipped name values) = (name ≢ codes "controllable-AP") × (nat_le 97 (get_or name 0 0) || get_or name 0 0 == 95 ≡ true)
@@ -93,7 +93,7 @@ state_lexemes l = header (codes "State") ∷ number l.state ∷ (name_lexemes l.
 
 -- ---- the text
 
--- what is written, in its order
+-- what is written, in order
 pub record Written : Type 0 where
   pub headers : List Header
   pub lines : List StateLine
@@ -114,7 +114,7 @@ abbrev pub set_list : Option (List ℕ) → List ℕ
 set_list None = []
 set_list (Some sets) = sets
 
--- each backslash before another byte is taken away
+-- each backslash before another byte is removed
 abbrev pub character_code : Character → ℕ
 character_code (plain b) = b
 character_code (escaped b) = b
@@ -122,7 +122,7 @@ character_code (escaped b) = b
 abbrev pub line_numbers : StateLine → List ℕ
 line_numbers l = l.state ∷ map (λ e. e.target) l.edges
 
--- the states are counted, or go up to the greatest number that is named
+-- the number of states is given, or else it is one more than the greatest number that is named
 abbrev pub count_of : List ℕ → List ℕ → ℕ
 count_of (n ∷ counts) named = n
 count_of [] named = suc (fold max 0 named)
@@ -143,13 +143,13 @@ pub record EdgeFits (states propositions sets : ℕ) (e : Edge) : Type 0 where
   pub target : e.target < states
   pub own_sets : EachBelow sets (set_list e.sets)
 
--- the same of a line and its edges
+-- each number of the line is in range, and each of its edges fits
 pub record LineFits (states propositions sets : ℕ) (l : StateLine) : Type 0 where
   pub state : l.state < states
   pub own_sets : EachBelow sets (set_list l.sets)
   pub edges : AllByRecursion (EdgeFits states propositions sets) l.edges
 
--- What the text says but for its steps: an automaton that may not be deterministic, within the limits.
+-- What the text says, except for its steps: an automaton within the limits, deterministic or not.
 pub record Says (w : Written) (a : Automaton) : Type 0 where
   pub counted : AtMostOne (flat_map state_counts w.headers)
   pub states : a.states ≡ count_of (flat_map state_counts w.headers) (a.start ∷ flat_map line_numbers w.lines)

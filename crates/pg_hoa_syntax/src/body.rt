@@ -14,7 +14,8 @@ use crate::formula::{Kind, Op, read_formula};
 use crate::token::{Token, next_token, unexpected};
 use std::alloc::{AllocError, Global};
 
-/// An edge as it is read: its label, where it leads, and the sets that stand behind it.
+/// An edge as it is read: its label, the state that it leads to, and the sets written after it, each once and the least
+/// first.
 #[derive(Drop)]
 pub struct Edge {
     pub label: Vec<Op>,
@@ -22,8 +23,8 @@ pub struct Edge {
     pub sets: Vec<u32>,
 }
 
-/// A state as it is read: its number, the greatest of this and the states to which its edges lead, its own sets, and the edges
-/// that leave it and that a letter may have.
+/// A state as it is read: its number, the greatest of this and the states that its edges lead to, its own sets, each
+/// once and the least first, and the edges that leave it and whose label a letter may match.
 #[derive(Drop)]
 pub struct ReadState {
     pub state: u32,
@@ -32,16 +33,16 @@ pub struct ReadState {
     pub edges: Vec<Edge>,
 }
 
-/// How many states, propositions and sets there may be: a number in the body is below its count.
+/// The numbers of states, propositions and sets that there may be: each number in the body must be below its count.
 #[derive(Clone, Copy)]
 pub struct Ranges {
-    /// What `States:` says, and 65,535 without it.
+    /// The number that `States:` gives, or 65,535 without it.
     pub states: u32,
     pub propositions: u32,
     pub sets: u32,
 }
 
-/// The token at the front, where one has to stand, how many bytes are left from it on, and the bytes behind it.
+/// Reads the token that must come next, and returns it with the number of bytes left from it on and the bytes after it.
 #[tactic(auto, unfolding(crate::specs::Mirrors::BodyScan::due))]
 fn due_token(bytes: &[u8]) -> Result<(Token<'_>, usize, &[u8]), Refusal>
     ensures { Gives (λ x. (lexeme x.0, lex x.2.now)) result (due (lex bytes.now)) }
@@ -53,7 +54,7 @@ fn due_token(bytes: &[u8]) -> Result<(Token<'_>, usize, &[u8]), Refusal>
     }
 }
 
-/// The number of a state.
+/// Returns the number of a state, which must be below `states`.
 #[tactic(auto, unfolding(crate::specs::Mirrors::BodyScan::state_of))]
 fn state_of(states: u32, token: Token<'_>, left: usize) -> Result<u32, Refusal>
     requires { states ≤ 65535 }
@@ -74,7 +75,7 @@ fn state_of(states: u32, token: Token<'_>, left: usize) -> Result<u32, Refusal>
     }
 }
 
-/// The number of a state that has no line so far.
+/// Returns the number of a state that has no line so far.
 #[tactic(auto, unfolding(crate::specs::Mirrors::BodyScan::new_state, crate::specs::Mirrors::BodyScan::state_of))]
 fn new_state(states: u32, seen: &[bool], token: Token<'_>, left: usize) -> Result<u32, Refusal>
     requires few { states ≤ 65535 }
@@ -99,7 +100,7 @@ fn new_state(states: u32, seen: &[bool], token: Token<'_>, left: usize) -> Resul
     }
 }
 
-/// A number between the braces round sets, or none at the last brace.
+/// Returns a number between the braces around sets, or None at the last brace.
 #[tactic(auto, unfolding(crate::specs::Mirrors::BodyScan::set_in))]
 fn set_in(sets: u32, token: Token<'_>, left: usize) -> Result<Option<u32>, Refusal>
     ensures { Gives (λ x. x) result (set_in sets (lexeme token.entry)) }
@@ -117,7 +118,7 @@ fn set_in(sets: u32, token: Token<'_>, left: usize) -> Result<Option<u32>, Refus
     }
 }
 
-/// Puts a number in its place among numbers that rise, unless it stands there.
+/// Inserts a number in its place among numbers that rise, unless it is there.
 fn put(numbers: &mut Vec<u32>, number: u32) -> Result<(), AllocError>
     requires { IsStrictlyIncreasing numbers.old.items }
     ensures { OnOk result (numbers.new.items ≡ put number numbers.old.items) }
@@ -131,7 +132,8 @@ fn put(numbers: &mut Vec<u32>, number: u32) -> Result<(), AllocError>
     }
 }
 
-/// Behind `{`: the numbers up to `}`, each once, the least first.
+/// Reads the numbers after `{` up to `}`, and returns them, each once and the least first, with the bytes after the
+/// `}`.
 fn read_sets(alloc: Global, sets: u32, bytes: &[u8]) -> Result<(Vec<u32>, &[u8]), Refusal>
     ensures { Gives (λ x. (x.0.items, lex x.1.now)) result (rising_sets_at sets (lex bytes.now)) }
 {
@@ -149,7 +151,7 @@ fn read_sets(alloc: Global, sets: u32, bytes: &[u8]) -> Result<(Vec<u32>, &[u8])
     }
 }
 
-/// The sets where a `{` stands, and else none.
+/// Reads the sets if there is a `{`, or else takes nothing. Returns the sets, and the bytes after them.
 #[tactic(auto, unfolding(crate::specs::Mirrors::BodyScan::sets_if))]
 fn sets_if(alloc: Global, sets: u32, bytes: &[u8]) -> Result<(Vec<u32>, &[u8]), Refusal>
     ensures { Gives (λ x. (x.0.items, lex x.1.now)) result (sets_if sets (lex bytes.now)) }
@@ -161,7 +163,7 @@ fn sets_if(alloc: Global, sets: u32, bytes: &[u8]) -> Result<(Vec<u32>, &[u8]), 
     }
 }
 
-/// Behind the `]` that has to stand at the front.
+/// Returns the bytes after the `]` that must come next.
 #[tactic(auto, unfolding(crate::specs::Mirrors::BodyScan::behind_label))]
 fn behind_label(bytes: &[u8]) -> Result<&[u8], Refusal>
     ensures { Gives (λ x. lex x.now) result (behind_label (lex bytes.now)) }
@@ -173,7 +175,7 @@ fn behind_label(bytes: &[u8]) -> Result<&[u8], Refusal>
     }
 }
 
-/// The state that an edge leads to, and the bytes behind it, where no `&` may stand.
+/// Reads the state that an edge leads to, which no `&` may follow, and returns it with the bytes after it.
 #[tactic(auto, unfolding(crate::specs::Mirrors::BodyScan::target_at))]
 fn read_target(states: u32, bytes: &[u8]) -> Result<(u32, &[u8]), Refusal>
     requires { states ≤ 65535 }
@@ -191,7 +193,7 @@ fn read_target(states: u32, bytes: &[u8]) -> Result<(u32, &[u8]), Refusal>
     }
 }
 
-/// Behind the `[` of an edge.
+/// Reads an edge after its `[`, and returns it with the bytes after it.
 #[tactic(auto, unfolding(crate::specs::Mirrors::BodyScan::edge_at))]
 fn read_edge(alloc: Global, ranges: Ranges, bytes: &[u8]) -> Result<(Edge, &[u8]), Refusal>
     requires { ranges.states ≤ 65535 }
@@ -212,7 +214,7 @@ fn read_edge(alloc: Global, ranges: Ranges, bytes: &[u8]) -> Result<(Edge, &[u8]
     ))
 }
 
-/// Whether an edge begins. A number there is an edge without a label.
+/// Whether an edge begins. A number there is an edge without a label, which is refused.
 #[tactic(auto, unfolding(crate::specs::Mirrors::BodyScan::begins_edge))]
 fn begins_edge(token: Token<'_>, left: usize) -> Result<bool, Refusal>
     ensures { Gives (λ x. x) result (begins_edge (lexeme token.entry)) }
@@ -227,7 +229,7 @@ fn begins_edge(token: Token<'_>, left: usize) -> Result<bool, Refusal>
     }
 }
 
-/// Whether a letter may have the label: it isn't the constant that no letter has.
+/// Whether a letter may match the label: it isn't the constant that no letter matches.
 fn may_hold(label: &[Op]) -> bool
     ensures { result ≡ may_hold label.now }
 {
@@ -237,7 +239,7 @@ fn may_hold(label: &[Op]) -> bool
     }
 }
 
-/// Puts an edge behind the others, if a letter may have it.
+/// Appends an edge, if a letter may match its label.
 fn keep(edges: &mut Vec<Edge>, edge: Edge) -> Result<(), AllocError>
     ensures { OnOk result (map edge_in edges.new.items ≡ map edge_in edges.old.items ++ kept_edges (edge_in edge ∷ [])) }
 {
@@ -247,7 +249,8 @@ fn keep(edges: &mut Vec<Edge>, edge: Edge) -> Result<(), AllocError>
     Ok(())
 }
 
-/// The edges of one state that are kept, the greatest of the state and all to which they lead, and the bytes behind them.
+/// Reads the edges of one state. Returns those that are kept, the greatest of the state and all states that the edges
+/// lead to, and the bytes after the edges.
 fn read_edges(
     alloc: Global,
     ranges: Ranges,
@@ -274,7 +277,7 @@ fn read_edges(
     }
 }
 
-/// Behind the name of a state, where one stands.
+/// Returns the bytes after the name of a state, if there is one, or else all of the bytes.
 #[tactic(auto, unfolding(crate::specs::Mirrors::BodyScan::behind_name))]
 fn behind_name(bytes: &[u8]) -> Result<&[u8], Refusal>
     ensures { Gives (λ x. lex x.now) result (behind_name (lex bytes.now)) }
@@ -286,7 +289,8 @@ fn behind_name(bytes: &[u8]) -> Result<&[u8], Refusal>
     }
 }
 
-/// Behind `State:`: a state, for which `seen` has no line, and its edges.
+/// Reads a line after `State:`: a state, for which `seen` has no line, and its edges. Returns it with the bytes after
+/// it.
 #[tactic(auto, unfolding(crate::specs::Mirrors::BodyScan::line_at))]
 fn read_line<'a>(
     alloc: Global,
@@ -315,7 +319,7 @@ fn read_line<'a>(
     Ok((line, rest))
 }
 
-/// Whether a line begins. Else the body ends there.
+/// Whether a line begins. Otherwise the body ends there.
 #[tactic(auto, unfolding(crate::specs::Mirrors::BodyScan::begins_line))]
 fn begins_line(token: Token<'_>, left: usize) -> Result<bool, Refusal>
     ensures { Gives (λ x. x) result (begins_line (lexeme token.entry)) }
@@ -333,7 +337,7 @@ fn begins_line(token: Token<'_>, left: usize) -> Result<bool, Refusal>
     }
 }
 
-/// Behind `--BODY--`: the lines in their order, and the bytes behind `--END--`.
+/// Reads the body after `--BODY--`, and returns its lines in their order and the bytes after `--END--`.
 pub fn read_body(
     alloc: Global,
     ranges: Ranges,

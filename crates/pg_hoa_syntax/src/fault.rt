@@ -1,4 +1,4 @@
-//! Why a text is refused, with offsets that count from its end.
+//! Why a text is refused, with offsets counted from its end.
 
 ghost use Rattle.std.specs.Prelude.{◌≡◌};
 ghost use Rattle.pg_hoa_syntax.specs.declared.fault.Refusal.TheVariants.{Memory};
@@ -11,7 +11,7 @@ use std::fmt;
 pub enum LeftOutName {
     /// The header `Alias:`, or a name that begins with `@`.
     Alias,
-    /// A label behind `State:`.
+    /// A label after `State:`.
     StateLabel,
     /// An edge without a label.
     ImplicitLabel,
@@ -23,7 +23,7 @@ pub enum LeftOutName {
     NoStart,
     /// `Inf(!s)` or `Fin(!s)`, at its `!`.
     NegatedSet,
-    /// `HOA:` behind `--END--`.
+    /// `HOA:` after `--END--`.
     SeveralAutomata,
     /// `--ABORT--`.
     Abort,
@@ -50,23 +50,31 @@ impl fmt::Display for LeftOutName {
     }
 }
 
-/// What is wrong with a text, or with its last part. In place of an offset it has the number of bytes from the token at
-/// fault to the end.
+/// What is wrong with a text, or with its last part. Instead of an offset, a fault carries the number of bytes from the
+/// token at fault to the end.
 #[derive(Clone, Copy)]
 pub enum PartFault {
+    /// No token begins there, or a comment or string that begins there doesn't end, or the token there isn't one that
+    /// may stand there.
     Syntax(usize),
+    /// HOA v1 allows what is there, and this reader doesn't support it.
     LeftOut(LeftOutName, usize),
+    /// A header that HOA v1 doesn't know, whose name begins with an upper-case letter.
     UnknownHeader(usize),
+    /// The number of a state, a proposition or a set there isn't below its count.
     OutOfRange(usize),
+    /// The acceptance condition has none of the six shapes.
     NotParity,
+    /// A number over 4,294,967,295, a count over its limit, or nesting deeper than 8,192.
     TooLarge,
+    /// The proposition of this number has an empty name, or a name with a byte below 32 or the byte 127.
     BadName(u32),
 }
 
 /// Why a text, or its last part, is refused.
 #[derive(Clone, Copy)]
 pub enum Refusal {
-    /// A growth was refused.
+    /// Memory ran out.
     Memory,
     /// The text is wrong, however much memory there is.
     Wrong(PartFault),

@@ -1,5 +1,5 @@
-//! Labels and acceptance conditions, as they are computed: operands before their operators. A stack of open brackets
-//! stands in for recursion, so that deep nesting costs memory in line with the text alone.
+//! Labels and acceptance conditions in the order in which they are computed: operands before their operators. A stack
+//! of open brackets replaces recursion, so deep nesting costs only memory, in proportion to the text.
 
 ghost use Rattle.std.specs.Prelude.{◌≡◌, ◌++◌, Some, None, option_map};
 ghost use Rattle.pg_hoa_syntax.specs.Mirrors.Steps.{Gives};
@@ -12,36 +12,44 @@ use crate::fault::{LeftOutName, PartFault, Refusal};
 use crate::token::{Token, next_token, unexpected};
 use std::alloc::Global;
 
-/// A label over so many propositions, or a condition over so many sets.
+/// The kind of a formula: a label over the given number of propositions, or a condition over the given number of sets.
 #[derive(Clone, Copy)]
 pub enum Kind {
     Label(u32),
     Condition(u32),
 }
 
-/// An operand, or an operator on what stands before it.
+/// An operand, or an operator on the operands before it.
 #[derive(Clone, Copy)]
 pub enum Op {
+    /// The constant `t`.
     Yes,
+    /// The constant `f`.
     No,
+    /// The proposition of this number.
     Proposition(u32),
+    /// `Inf` of the set of this number.
     Inf(u32),
+    /// `Fin` of the set of this number.
     Fin(u32),
+    /// The operator `!`.
     Not,
+    /// The operator `&`.
     Both,
+    /// The operator `|`.
     Either,
 }
 
-/// What stands before the operand that is due, within one bracket.
+/// What was read before the next operand, within one bracket.
 #[derive(Clone, Copy)]
 pub struct Frame {
     /// Whether an operand of `|` waits for the other one.
     sum: bool,
     /// Whether an operand of `&` waits for the other one.
     product: bool,
-    /// How many `!` stand right before the operand.
+    /// The number of `!` right before the operand.
     nots: u32,
-    /// How many brackets and `!` may be open round one place here, beyond those round this bracket.
+    /// The number of brackets and `!` that may be open around one place here, beyond those around this bracket.
     room: u32,
 }
 
@@ -49,11 +57,11 @@ pub struct Frame {
 #[derive(Clone, Copy)]
 pub enum Mode {
     Operand,
-    /// The bracket behind `Inf` or `Fin`.
+    /// The bracket after `Inf`, if true, or `Fin`.
     Opening(bool),
     /// The number in that bracket.
     Naming(bool),
-    /// The bracket behind that number.
+    /// The bracket after that number.
     Closing(Op),
     Operator,
 }
@@ -67,7 +75,7 @@ pub struct Reading {
     ops: Vec<Op>,
 }
 
-/// The operations, and so many negations behind them.
+/// Appends `count` negations to the operations.
 fn push_nots(mut ops: Vec<Op>, count: u32) -> Result<Vec<Op>, Refusal>
     ensures { Gives (λ x. x.items) result (Some (ops.items ++ not_ops count)) }
 {
@@ -77,7 +85,7 @@ fn push_nots(mut ops: Vec<Op>, count: u32) -> Result<Vec<Op>, Refusal>
     Ok(ops)
 }
 
-/// The innermost of the open brackets, and those round it.
+/// Returns the open brackets without the innermost, and the innermost, if any is open.
 fn split_last(mut outer: Vec<Frame>) -> Option<(Vec<Frame>, Frame)>
     ensures { option_map (λ x. (x.0.items, x.1)) result ≡ split_last outer.items }
 {
@@ -87,7 +95,7 @@ fn split_last(mut outer: Vec<Frame>) -> Option<(Vec<Frame>, Frame)>
     }
 }
 
-/// The reading behind an operand whose operations are kept.
+/// Returns the reading after an operand whose operations it has already.
 #[tactic(auto, unfolding(crate::specs::Mirrors::FormulaRun::completed_at))]
 fn completed(reading: Reading) -> Result<Reading, Refusal>
     ensures { Gives view result (completed_at (view reading)) }
@@ -110,7 +118,7 @@ fn completed(reading: Reading) -> Result<Reading, Refusal>
     })
 }
 
-/// The reading behind an operand of one operation.
+/// Returns the reading after an operand of one operation.
 #[tactic(auto, unfolding(crate::specs::Mirrors::FormulaRun::operand_at))]
 fn operand(mut reading: Reading, op: Op) -> Result<Reading, Refusal>
     ensures { Gives view result (operand_at (view reading) op) }
@@ -119,7 +127,7 @@ fn operand(mut reading: Reading, op: Op) -> Result<Reading, Refusal>
     completed(reading)
 }
 
-/// The reading behind a `!`.
+/// Returns the reading after a `!`.
 #[tactic(auto, unfolding(crate::specs::Mirrors::FormulaRun::negated_at))]
 fn negated(mut reading: Reading) -> Result<Reading, Refusal>
     ensures { Gives view result (negated_at (view reading)) }
@@ -133,7 +141,7 @@ fn negated(mut reading: Reading) -> Result<Reading, Refusal>
     }
 }
 
-/// The reading behind a bracket that opens.
+/// Returns the reading after an opening bracket.
 #[tactic(auto, unfolding(crate::specs::Mirrors::FormulaRun::opened_at))]
 fn opened(mut reading: Reading) -> Result<Reading, Refusal>
     ensures { Gives view result (opened_at (view reading)) }
@@ -154,7 +162,7 @@ fn opened(mut reading: Reading) -> Result<Reading, Refusal>
     }
 }
 
-/// The reading behind a `&`.
+/// Returns the reading after an `&`.
 #[tactic(auto, unfolding(crate::specs::Mirrors::FormulaRun::product_at))]
 fn product(mut reading: Reading) -> Result<Reading, Refusal>
     ensures { Gives view result (product_at (view reading)) }
@@ -165,7 +173,7 @@ fn product(mut reading: Reading) -> Result<Reading, Refusal>
     Ok(reading)
 }
 
-/// The reading behind a `|`.
+/// Returns the reading after a `|`.
 #[tactic(auto, unfolding(crate::specs::Mirrors::FormulaRun::sum_at))]
 fn sum(mut reading: Reading) -> Result<Reading, Refusal>
     ensures { Gives view result (sum_at (view reading)) }
@@ -180,7 +188,7 @@ fn sum(mut reading: Reading) -> Result<Reading, Refusal>
     Ok(reading)
 }
 
-/// The reading behind a bracket that closes, with `left` bytes left from it on.
+/// Returns the reading after a closing bracket, with `left` bytes left from it on.
 #[tactic(auto, unfolding(crate::specs::Mirrors::FormulaRun::closed_at))]
 fn closed(reading: Reading, left: usize) -> Result<Reading, Refusal>
     ensures { Gives view result (closed_at (view reading)) }
@@ -200,7 +208,7 @@ fn closed(reading: Reading, left: usize) -> Result<Reading, Refusal>
     }
 }
 
-/// The reading behind a word that is `Inf` or `Fin`, in a condition.
+/// Returns the reading after a word that must be `Inf` or `Fin`, in a condition.
 #[tactic(auto, unfolding(crate::specs::Mirrors::FormulaRun::limit_at))]
 fn limit(kind: Kind, word: &[u8], mut reading: Reading, left: usize) -> Result<Reading, Refusal>
     ensures { Gives view result (limit_at kind word.now (view reading)) }
@@ -221,7 +229,7 @@ fn limit(kind: Kind, word: &[u8], mut reading: Reading, left: usize) -> Result<R
     }
 }
 
-/// The reading behind a word.
+/// Returns the reading after a word.
 #[tactic(auto, unfolding(crate::specs::Mirrors::FormulaRun::word_at))]
 fn word(kind: Kind, word: &[u8], reading: Reading, left: usize) -> Result<Reading, Refusal>
     ensures { Gives view result (word_at kind word.now (view reading)) }
@@ -235,7 +243,7 @@ fn word(kind: Kind, word: &[u8], reading: Reading, left: usize) -> Result<Readin
     }
 }
 
-/// The reading behind a token where an operand is due.
+/// Returns the reading after a token where an operand must come.
 #[tactic(auto, unfolding(crate::specs::Mirrors::FormulaRun::operand_turn))]
 fn operand_turn(
     kind: Kind,
@@ -260,7 +268,7 @@ fn operand_turn(
     }
 }
 
-/// The reading behind a token where an operand has ended.
+/// Returns the reading after a token where an operand has ended.
 #[tactic(auto, unfolding(crate::specs::Mirrors::FormulaRun::operator_turn))]
 fn operator_turn(reading: Reading, token: Token<'_>, left: usize) -> Result<Reading, Refusal>
     ensures { Gives view result (operator_turn (view reading) (lexeme token.entry)) }
@@ -273,7 +281,7 @@ fn operator_turn(reading: Reading, token: Token<'_>, left: usize) -> Result<Read
     }
 }
 
-/// The reading behind a token where the bracket behind `Inf`, if `positive`, or `Fin` is due.
+/// Returns the reading after a token where the bracket after `Inf`, if `positive`, or `Fin` must come.
 #[tactic(auto, unfolding(crate::specs::Mirrors::FormulaRun::opening_turn))]
 fn opening_turn(
     mut reading: Reading,
@@ -292,7 +300,7 @@ fn opening_turn(
     }
 }
 
-/// The reading behind a token where the number of a set is due.
+/// Returns the reading after a token where the number of a set must come.
 #[tactic(auto, unfolding(crate::specs::Mirrors::FormulaRun::naming_turn))]
 fn naming_turn(
     kind: Kind,
@@ -320,7 +328,7 @@ fn naming_turn(
     }
 }
 
-/// The reading behind a token where the bracket behind that number is due.
+/// Returns the reading after a token where the bracket after the number of a set must come.
 #[tactic(auto, unfolding(crate::specs::Mirrors::FormulaRun::closing_turn))]
 fn closing_turn(reading: Reading, op: Op, token: Token<'_>, left: usize) -> Result<Reading, Refusal>
     ensures { Gives view result (closing_turn (view reading) op (lexeme token.entry)) }
@@ -331,7 +339,7 @@ fn closing_turn(reading: Reading, op: Op, token: Token<'_>, left: usize) -> Resu
     }
 }
 
-/// The reading behind one more token, with `left` bytes left from it on.
+/// Returns the reading after one more token, with `left` bytes left from it on.
 #[tactic(auto, unfolding(crate::specs::Mirrors::FormulaRun::turn_at))]
 fn turn(kind: Kind, reading: Reading, token: Token<'_>, left: usize) -> Result<Reading, Refusal>
     ensures { Gives view result (turn_at kind (view reading) (lexeme token.entry)) }
@@ -345,7 +353,7 @@ fn turn(kind: Kind, reading: Reading, token: Token<'_>, left: usize) -> Result<R
     }
 }
 
-/// The token that was found, if it may belong to the formula.
+/// Returns the token that was found, if it may belong to the formula.
 #[tactic(auto, unfolding(crate::specs::Mirrors::FormulaRun::taken_at, crate::specs::Mirrors::FormulaRun::goes_on_at))]
 fn taken<'a>(reading: &Reading, found: Option<Token<'a>>) -> Option<Token<'a>>
     ensures { option_map lexeme result ≡ taken_at (view reading.now) (option_map lexeme found.entry) }
@@ -366,7 +374,7 @@ fn taken<'a>(reading: &Reading, found: Option<Token<'a>>) -> Option<Token<'a>>
     }
 }
 
-/// The operations of a formula that ends here, with `left` bytes left.
+/// Returns the operations of a formula that ends here, with `left` bytes left.
 #[tactic(auto, unfolding(crate::specs::Mirrors::FormulaRun::over_at))]
 fn over(reading: Reading, left: usize) -> Result<Vec<Op>, Refusal>
     ensures { Gives (λ x. x.items) result (over_at (view reading)) }
@@ -387,8 +395,8 @@ fn over(reading: Reading, left: usize) -> Result<Vec<Op>, Refusal>
     }
 }
 
-/// The formula at the front, as it is computed, and the bytes behind it. It ends before the first token that can't
-/// belong to it.
+/// Reads the formula at the start, and returns its operations, operands before their operators, and the bytes after it.
+/// The formula ends before the first token that can't belong to it.
 pub fn read_formula(alloc: Global, kind: Kind, bytes: &[u8]) -> Result<(Vec<Op>, &[u8]), Refusal>
     ensures { Gives (λ x. (x.0.items, lex x.1.now)) result (ops_at kind (lex bytes.now)) }
 {

@@ -16,7 +16,7 @@ use crate::formula::{Kind, Op, read_formula};
 use crate::token::{Token, next_token, unexpected};
 use std::alloc::{AllocError, Global};
 
-/// What the headers say. A number that may be out of range stands with how many bytes are left from it on.
+/// The contents of the headers. A number that may be out of range comes with the number of bytes left from it on.
 #[derive(Drop)]
 pub struct Head {
     pub states: Option<u32>,
@@ -26,7 +26,7 @@ pub struct Head {
     pub acceptance: Option<(u32, Vec<Op>)>,
 }
 
-/// What is wrong where another token has to stand, or the text ends.
+/// Returns the fault where another token must come, at the token that was found or at the end of the text.
 fn misplaced(found: Option<Token<'_>>, left: usize) -> PartFault {
     match found {
         Some(token) => unexpected(token, left),
@@ -34,7 +34,7 @@ fn misplaced(found: Option<Token<'_>>, left: usize) -> PartFault {
     }
 }
 
-/// The number, if one was found.
+/// Returns the number, if one was found.
 fn number(found: Option<Token<'_>>) -> Option<u32>
     ensures { result ≡ numeral_of (option_map lexeme found.entry) }
 {
@@ -44,7 +44,7 @@ fn number(found: Option<Token<'_>>) -> Option<u32>
     }
 }
 
-/// Whether a value of a header that is skipped was found.
+/// Whether the token that was found can be a value of a header that is skipped.
 fn is_value(found: Option<Token<'_>>) -> bool
     ensures { result ≡ is_value (option_map lexeme found.entry) }
 {
@@ -56,7 +56,7 @@ fn is_value(found: Option<Token<'_>>) -> bool
     }
 }
 
-/// A number up to a limit, how many bytes are left from it on, and the bytes behind it.
+/// Reads a number of at most `limit`, and returns it with the number of bytes left from it on and the bytes after it.
 #[tactic(auto, unfolding(crate::specs::Mirrors::HeaderScan::numeral_at))]
 fn read_number(limit: u32, bytes: &[u8]) -> Result<(u32, usize, &[u8]), Refusal>
     ensures { Gives (λ x. (x.0, lex x.2.now)) result (numeral_at limit (lex bytes.now)) }
@@ -74,7 +74,7 @@ fn read_number(limit: u32, bytes: &[u8]) -> Result<(u32, usize, &[u8]), Refusal>
     }
 }
 
-/// The bytes behind the number of `Start:`, where no `&` stands.
+/// Returns the bytes after the number of `Start:` as they are, unless they begin with an `&`, which it refuses.
 #[tactic(auto, unfolding(crate::specs::Mirrors::HeaderScan::alone_at))]
 fn alone(bytes: &[u8]) -> Result<&[u8], Refusal>
     ensures { Gives (λ x. lex x.now) result (alone_at (lex bytes.now)) }
@@ -89,14 +89,14 @@ fn alone(bytes: &[u8]) -> Result<&[u8], Refusal>
     }
 }
 
-/// Whether the number stands in the list.
+/// Whether the number is in the list.
 pub fn is_noted(numbers: &[(u32, usize)], number: usize) -> bool
     ensures { result ≡ list_any (λ x. x.0 == number) numbers.now }
 {
     numbers.iter().any(|noted| noted.0 as usize == number)
 }
 
-/// Puts a number behind the others, unless it stands there. All from 16 on, which no proposition has, are noted as 16.
+/// Appends a number, unless it is in the list. All numbers from 16 on, which no proposition has, are noted as 16.
 fn note(numbers: &mut Vec<(u32, usize)>, number: u32, left: usize) -> Result<(), AllocError>
     ensures { OnOk result (map (λ y. y.0) numbers.new.items ≡ note (map (λ y. y.0) numbers.old.items) number) }
 {
@@ -108,8 +108,8 @@ fn note(numbers: &mut Vec<(u32, usize)>, number: u32, left: usize) -> Result<(),
     Ok(())
 }
 
-/// Numbers until another token, as they are noted, each with how many bytes are left from where it stands first, and the
-/// bytes behind them.
+/// Reads numbers up to another token. Returns them as `note` keeps them, each with the number of bytes left from its
+/// first occurrence on, and the bytes after them.
 fn read_numbers(alloc: Global, bytes: &[u8]) -> Result<(Vec<(u32, usize)>, &[u8]), Refusal>
     ensures { Gives (λ x. (map (λ y. y.0) x.0.items, lex x.1.now)) result (noted_at (lex bytes.now)) }
 {
@@ -127,7 +127,7 @@ fn read_numbers(alloc: Global, bytes: &[u8]) -> Result<(Vec<(u32, usize)>, &[u8]
     }
 }
 
-/// The bytes behind the values of a header that is skipped.
+/// Returns the bytes after the values of a header that is skipped.
 fn skip_values(bytes: &[u8]) -> Result<&[u8], Refusal>
     ensures { Gives (λ x. lex x.now) result (skipped_from (lex bytes.now)) }
 {
@@ -141,7 +141,7 @@ fn skip_values(bytes: &[u8]) -> Result<&[u8], Refusal>
     }
 }
 
-/// The first character of a string's content, without a backslash before it, and what follows.
+/// Returns the first character of a string's content, without a backslash before it, and the bytes after it.
 fn character(content: &[u8]) -> Option<(u8, &[u8])>
     ensures { option_map (λ x. (x.0, x.1.now)) result ≡ code_at content.now }
 {
@@ -160,7 +160,7 @@ fn character(content: &[u8]) -> Option<(u8, &[u8])>
     }
 }
 
-/// A string's content, with each backslash before another byte taken away.
+/// Returns a string's content, with each backslash before another byte removed.
 fn unescaped(alloc: Global, content: &[u8]) -> Result<Vec<u8>, AllocError>
     ensures { IfOk result (λ v. v.items ≡ map character_code (characters content.now)) }
 {
@@ -177,7 +177,7 @@ fn unescaped(alloc: Global, content: &[u8]) -> Result<Vec<u8>, AllocError>
     }
 }
 
-/// Whether a name may hold the byte.
+/// Whether a name may contain the byte.
 fn is_name_byte(byte: u8) -> bool
     ensures { result ≡ is_name_byte byte }
 {
@@ -191,7 +191,8 @@ fn is_name(name: &[u8]) -> bool
     !name.is_empty() && name.iter().all(|byte| is_name_byte(*byte))
 }
 
-/// The name of the proposition of this number, where a string was found, `left` bytes before the end.
+/// Returns the name of the proposition with this number from the token that was found, `left` bytes before the end,
+/// which must be a string.
 #[tactic(auto, unfolding(crate::specs::Mirrors::HeaderScan::name_of))]
 fn name_in(
     alloc: Global,
@@ -214,7 +215,7 @@ fn name_in(
     }
 }
 
-/// The name of the proposition of this number, and the bytes behind it.
+/// Reads the name of the proposition with this number, and returns it with the bytes after it.
 #[tactic(auto, unfolding(crate::specs::Mirrors::HeaderScan::quoted_at))]
 fn read_name(alloc: Global, proposition: u32, bytes: &[u8]) -> Result<(Vec<u8>, &[u8]), Refusal>
     ensures { Gives (λ x. (x.0.items, lex x.1.now)) result (quoted_at (lex bytes.now)) }
@@ -223,7 +224,7 @@ fn read_name(alloc: Global, proposition: u32, bytes: &[u8]) -> Result<(Vec<u8>, 
     Ok((name_in(alloc, proposition, found, left)?, rest))
 }
 
-/// So many names, and the bytes behind them.
+/// Reads `count` names, and returns them with the bytes after them.
 fn read_names(alloc: Global, count: u32, bytes: &[u8]) -> Result<(Vec<Vec<u8>>, &[u8]), Refusal>
     ensures { Gives (λ x. (map (λ name. name.items) x.0.items, lex x.1.now)) result
         (names_from count [] (lex bytes.now)) }
@@ -238,7 +239,8 @@ fn read_names(alloc: Global, count: u32, bytes: &[u8]) -> Result<(Vec<Vec<u8>>, 
     Ok((names, rest))
 }
 
-/// Puts what stands behind `States:`, a name `left` bytes before the end, into the head: the bytes behind that.
+/// Reads the value of the header `States:`, whose name is `left` bytes before the end, into the head. Returns the bytes
+/// after it.
 #[tactic(auto, unfolding(crate::specs::Mirrors::HeaderScan::states_at))]
 fn states<'a>(head: &mut Head, left: usize, bytes: &'a [u8]) -> Result<&'a [u8], Refusal>
     ensures { Gives (λ x. (head_in head.new, lex x.now)) result (states_at (head_in head.old) (lex bytes.now)) }
@@ -251,7 +253,8 @@ fn states<'a>(head: &mut Head, left: usize, bytes: &'a [u8]) -> Result<&'a [u8],
     Ok(rest)
 }
 
-/// Likewise behind `Start:`.
+/// Reads the value of the header `Start:`, whose name is `left` bytes before the end, into the head. Returns the bytes
+/// after it.
 #[tactic(auto, unfolding(crate::specs::Mirrors::HeaderScan::start_at))]
 fn start<'a>(head: &mut Head, left: usize, bytes: &'a [u8]) -> Result<&'a [u8], Refusal>
     ensures { Gives (λ x. (head_in head.new, lex x.now)) result (start_at (head_in head.old) (lex bytes.now)) }
@@ -265,7 +268,8 @@ fn start<'a>(head: &mut Head, left: usize, bytes: &'a [u8]) -> Result<&'a [u8], 
     Ok(rest)
 }
 
-/// Likewise behind `AP:`.
+/// Reads the values of the header `AP:`, whose name is `left` bytes before the end, into the head. Returns the bytes
+/// after them.
 #[tactic(auto, unfolding(crate::specs::Mirrors::HeaderScan::names_at))]
 fn names<'a>(
     alloc: Global,
@@ -284,7 +288,8 @@ fn names<'a>(
     Ok(rest)
 }
 
-/// Likewise behind `Acceptance:`.
+/// Reads the values of the header `Acceptance:`, whose name is `left` bytes before the end, into the head. Returns the
+/// bytes after them.
 #[tactic(auto, unfolding(crate::specs::Mirrors::HeaderScan::acceptance_at))]
 fn acceptance<'a>(
     alloc: Global,
@@ -303,7 +308,8 @@ fn acceptance<'a>(
     Ok(rest)
 }
 
-/// Likewise behind `controllable-AP:`.
+/// Reads the values of the header `controllable-AP:`, whose name is `left` bytes before the end, into the head. Returns
+/// the bytes after them.
 #[tactic(auto, unfolding(crate::specs::Mirrors::HeaderScan::controls_at))]
 fn controls<'a>(
     alloc: Global,
@@ -331,7 +337,7 @@ fn begins_low(name: &[u8]) -> bool
     }
 }
 
-/// The bytes behind any other name and its values: such a header is skipped, or refused.
+/// Skips the values of a header with any other name and returns the bytes after them, or refuses the header.
 #[tactic(auto, unfolding(crate::specs::Mirrors::HeaderScan::other_at))]
 fn other<'a>(name: &[u8], left: usize, bytes: &'a [u8]) -> Result<&'a [u8], Refusal>
     ensures { (h : KeptHead) → Gives (λ x. (h, lex x.now)) result (other_at h name.now (lex bytes.now)) }
@@ -345,7 +351,8 @@ fn other<'a>(name: &[u8], left: usize, bytes: &'a [u8]) -> Result<&'a [u8], Refu
     }
 }
 
-/// Puts what a header of this name says, `left` bytes before the end, into the head: the bytes behind it.
+/// Reads the values of the header with this name, which is `left` bytes before the end, into the head. Returns the
+/// bytes after them.
 #[tactic(auto, unfolding(crate::specs::Mirrors::HeaderScan::header_at))]
 fn header<'a>(
     alloc: Global,
@@ -372,7 +379,7 @@ fn header<'a>(
     }
 }
 
-/// The bytes behind `HOA:`.
+/// Reads `HOA:`, and returns the bytes after it.
 #[tactic(auto, unfolding(crate::specs::Mirrors::HeaderScan::opening_at))]
 pub fn opening(bytes: &[u8]) -> Result<&[u8], Refusal>
     ensures { Gives (λ x. lex x.now) result (opening_at (lex bytes.now)) }
@@ -384,7 +391,7 @@ pub fn opening(bytes: &[u8]) -> Result<&[u8], Refusal>
     }
 }
 
-/// The bytes behind `v1`.
+/// Reads `v1`, and returns the bytes after it.
 #[tactic(auto, unfolding(crate::specs::Mirrors::HeaderScan::version_at))]
 pub fn version(bytes: &[u8]) -> Result<&[u8], Refusal>
     ensures { Gives (λ x. lex x.now) result (version_at (lex bytes.now)) }
@@ -396,8 +403,8 @@ pub fn version(bytes: &[u8]) -> Result<&[u8], Refusal>
     }
 }
 
-/// Puts what the headers say, up to `--BODY--`, into the head: how many bytes are left from `--BODY--` on, and the
-/// bytes behind it.
+/// Reads the headers up to `--BODY--` into the head. Returns the number of bytes left from `--BODY--` on, and the bytes
+/// after it.
 fn headers<'a>(
     alloc: Global,
     head: &mut Head,
@@ -420,8 +427,8 @@ fn headers<'a>(
     }
 }
 
-/// From the first byte up to `--BODY--`: what the headers say, how many bytes are left from `--BODY--` on, and the bytes
-/// behind it.
+/// Reads the headers from the first byte up to `--BODY--`. Returns their contents, the number of bytes left from
+/// `--BODY--` on, and the bytes after it.
 #[tactic(auto, unfolding(crate::specs::Mirrors::HeaderScan::headers_at))]
 pub fn read_headers(alloc: Global, bytes: &[u8]) -> Result<(Head, usize, &[u8]), Refusal>
     ensures { Gives (λ x. (head_in x.0, lex x.2.now)) result (headers_at (lex bytes.now)) }

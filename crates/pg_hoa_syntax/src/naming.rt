@@ -12,7 +12,7 @@ use crate::header::{opening, version};
 use crate::token::{Token, next_token};
 use std::alloc::{AllocError, Global};
 
-/// Whether the token decides that a header of this name is written, or that none is.
+/// Whether a header of this name is written, if the token, or the end of the text, decides that.
 fn decided(found: Option<Token<'_>>, name: &[u8]) -> Option<bool>
     ensures { result ≡ decided name.now (option_map lexeme found.entry) }
 {
@@ -23,7 +23,7 @@ fn decided(found: Option<Token<'_>>, name: &[u8]) -> Option<bool>
     }
 }
 
-/// Whether a header of this name stands ahead of `--BODY--`, or of the end.
+/// Whether a header of this name comes before `--BODY--`, or before the end of the text.
 fn is_named(bytes: &[u8], name: &[u8]) -> Result<bool, Refusal>
     ensures { IfOk result (λ found. named_from name.now (lex bytes.now) ≡ found) }
 {
@@ -37,7 +37,7 @@ fn is_named(bytes: &[u8], name: &[u8]) -> Result<bool, Refusal>
     }
 }
 
-/// The bytes behind `HOA: v1`.
+/// Returns the bytes after `HOA: v1`.
 fn behind_version(bytes: &[u8]) -> Result<&[u8], Refusal>
     ensures { IfOk result (λ rest. (w : Written) → IsText bytes.now w → lex rest.now ≡ behind_version w) }
 {
@@ -52,7 +52,7 @@ pub fn has_header(bytes: &[u8], name: &[u8]) -> Result<bool, Refusal>
     is_named(behind_version(bytes)?, name)
 }
 
-/// Appends a number in decimal digits, behind a blank.
+/// Appends a space and a number in decimal digits.
 fn add_control(text: &mut Vec<u8>, number: u32) -> Result<(), AllocError>
     requires { number < 16 }
     ensures { OnOk result (text.new.items ≡ text.old.items ++ control_bytes number) }
@@ -65,7 +65,7 @@ fn add_control(text: &mut Vec<u8>, number: u32) -> Result<(), AllocError>
 }
 
 /// Returns the text with the header `controllable-AP` before all others, by which the controller sets the propositions
-/// with these numbers. Fails if the text doesn't begin with `HOA: v1`, or if memory runs out.
+/// with these numbers, which are below 16. Fails if the text doesn't begin with `HOA: v1`, or if memory runs out.
 pub fn with_controls(alloc: Global, bytes: &[u8], controls: &[u32]) -> Result<Vec<u8>, Refusal>
     requires { All (λ n. n < 16) controls.now }
     ensures { IfOk result (λ text. (w : Written) → IsText bytes.now w → IsText text.items (with_controls controls.now w)) }

@@ -1,4 +1,4 @@
-//! The headers of a text, once they are whole.
+//! The headers of a text, once all of them are read.
 
 ghost use Rattle.std.specs.Prelude.{◌≡◌, ◌<◌, map, IfOk, IfErr, MatchOption, MatchBool};
 ghost use Rattle.std.specs.List.{All};
@@ -11,8 +11,9 @@ use crate::shape::shape_of;
 use pg_hoa_automaton::Shape;
 use std::alloc::{AllocError, Global};
 
-/// What the headers say together: a count of states where one is given, the start, the names of propositions, for each of
-/// them whether the controller sets it, the count of sets and the shape of the condition.
+/// The contents of all headers together: the number of states, if it is given, the start state, the names of the
+/// propositions, for each proposition whether the controller sets it, the number of sets, and the shape of the
+/// condition.
 #[derive(Drop)]
 pub struct Preamble {
     pub states: Option<u32>,
@@ -23,7 +24,7 @@ pub struct Preamble {
     pub shape: Shape,
 }
 
-/// For each proposition, whether its number stands in the list.
+/// Returns for each proposition whether its number is in the list.
 fn marked(alloc: Global, controls: &[(u32, usize)], count: usize) -> Result<Vec<bool>, AllocError>
     ensures { IfOk result (λ v. v.items ≡ marked (map (λ x. x.0) controls.now) count) }
 {
@@ -34,7 +35,7 @@ fn marked(alloc: Global, controls: &[(u32, usize)], count: usize) -> Result<Vec<
     Ok(marks)
 }
 
-/// The first number in the list that isn't below the count: how many bytes are left from it on.
+/// Returns the number of bytes left from the first number in the list that isn't below the count, if there is one.
 fn first_above(controls: &[(u32, usize)], count: usize) -> Option<usize>
     ensures { MatchOption result (All (λ x. x.0 < count) controls.now) (λ _. All (λ x. x.0 < count) controls.now → ⊥) }
 {
@@ -46,9 +47,9 @@ fn first_above(controls: &[(u32, usize)], count: usize) -> Option<usize>
     None
 }
 
-/// What the headers say, where `left` bytes are left from `--BODY--` on. It refuses, in this order, headers without a
-/// condition, without a start, a start that isn't below the count of states, a proposition of the controller that isn't below
-/// their count, and a condition of none of the six shapes.
+/// Returns the contents of the headers, where `left` bytes are left from `--BODY--` on. It refuses, in this order,
+/// headers without a condition, headers without a start, a start that isn't below the number of states, a proposition
+/// of the controller that isn't below the number of propositions, and a condition of none of the six shapes.
 pub fn preamble_of(alloc: Global, head: Head, left: usize) -> Result<Preamble, Refusal>
     requires { HasCondition (head_in head).acceptance }
     ensures found { IfOk result (λ s. IsPreambleOf (head_in head) (preamble_in s)) }
@@ -90,7 +91,7 @@ pub fn preamble_of(alloc: Global, head: Head, left: usize) -> Result<Preamble, R
     })
 }
 
-/// Whether the state is below their count, where one is given.
+/// Whether the state is below the number of states, if that is given.
 fn starts_below(start: u32, states: Option<u32>) -> bool
     ensures { MatchBool result (StartsBelow start states) (StartsBelow start states → ⊥) }
 {

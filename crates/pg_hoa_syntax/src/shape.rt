@@ -10,7 +10,7 @@ ghost use Rattle.pg_hoa_syntax.specs.Mirrors.ShapeRun.{is_leaf, is_join, without
 use crate::formula::Op;
 use pg_hoa_automaton::Shape;
 
-/// The set that stands round `inside` others.
+/// Returns the set that has `inside` other sets nested in it.
 fn set_at(shape: Shape, sets: u32, inside: u32) -> u32
     requires { inside < sets }
     ensures { result ≡ set_at shape sets inside }
@@ -31,7 +31,7 @@ fn is_wanted(shape: Shape, set: u32) -> bool
     }
 }
 
-/// Whether the operation is `Inf` of the set, where it is wanted, or `Fin` of it, where it is not.
+/// Whether the operation is `Inf` of the set if the set is wanted, or `Fin` of it if it is not.
 fn is_leaf(op: Op, wanted: bool, set: u32) -> bool
     ensures { result ≡ is_leaf wanted set op }
 {
@@ -42,7 +42,7 @@ fn is_leaf(op: Op, wanted: bool, set: u32) -> bool
     }
 }
 
-/// Whether the operation joins such a leaf with what stands inside it.
+/// Whether the operation joins the leaf of a set, wanted or not, with the operations nested in it.
 fn is_join(op: Op, wanted: bool) -> bool
     ensures { result ≡ is_join wanted op }
 {
@@ -53,8 +53,8 @@ fn is_join(op: Op, wanted: bool) -> bool
     }
 }
 
-/// What two operands leave without the leaf, which is one of them. Where it stands at both ends it is taken from the
-/// front: what is left has the leaf once more, and so is of no shape either way.
+/// Returns two operands without the leaf, which is one of them, or None if neither is the leaf. If the leaf is at both
+/// ends, the one at the start is removed: the rest then has the leaf once more, and so has no shape either way.
 #[tactic(auto, unfolding(crate::specs::Mirrors::ShapeRun::without_leaf))]
 fn without_leaf(operands: &[Op], wanted: bool, set: u32) -> Option<&[Op]>
     ensures { option_map (λ ops. ops.now) result ≡ without_leaf wanted set operands.now }
@@ -71,7 +71,7 @@ fn without_leaf(operands: &[Op], wanted: bool, set: u32) -> Option<&[Op]>
     }
 }
 
-/// What the set's leaf is joined with.
+/// Returns the operations that the leaf of the set is joined with, if it is joined with any.
 #[tactic(auto, unfolding(crate::specs::Mirrors::ShapeRun::inner_at))]
 fn inner(ops: &[Op], wanted: bool, set: u32) -> Option<&[Op]>
     ensures { option_map (λ ops. ops.now) result ≡ inner_at wanted set ops.now }
@@ -84,7 +84,7 @@ fn inner(ops: &[Op], wanted: bool, set: u32) -> Option<&[Op]>
     }
 }
 
-/// Whether the leaf is all.
+/// Whether the leaf is the only operation.
 fn only_leaf(ops: &[Op], wanted: bool, set: u32) -> bool
     ensures { result ≡ only_leaf wanted set ops.now }
 {
@@ -94,7 +94,7 @@ fn only_leaf(ops: &[Op], wanted: bool, set: u32) -> bool
     }
 }
 
-/// Whether the operations are of the shape, each set in its place from the outermost to the innermost.
+/// Whether the operations have the shape, with each set in its place from the outermost to the innermost.
 fn fits(ops: &[Op], sets: u32, shape: Shape) -> bool
     requires { 0 < sets }
     ensures { result ≡ fits_at shape sets ops.now }
@@ -113,7 +113,7 @@ fn fits(ops: &[Op], sets: u32, shape: Shape) -> bool
     only_leaf(rest, is_wanted(shape, set), set)
 }
 
-/// The shape of a condition over no sets.
+/// Returns the shape of a condition over no sets, if it has one.
 fn constant_shape(ops: &[Op]) -> Option<Shape>
     ensures { result ≡ constant_at ops.now }
 {
@@ -124,7 +124,7 @@ fn constant_shape(ops: &[Op]) -> Option<Shape>
     }
 }
 
-/// The shape of a condition over some sets.
+/// Returns the first shape that fits a condition over at least one set, if there is one.
 fn nested_shape(ops: &[Op], sets: u32) -> Option<Shape>
     requires { 0 < sets }
     ensures { result ≡ nested_at sets ops.now }
@@ -142,7 +142,8 @@ fn nested_shape(ops: &[Op], sets: u32) -> Option<Shape>
     }
 }
 
-/// The first shape that fits a condition over so many sets, up to brackets and the order of two operands.
+/// Returns the first shape that fits a condition over `sets` sets, up to brackets and the order of two operands, if
+/// there is one.
 pub fn shape_of(ops: &[Op], sets: u32) -> Option<Shape>
     ensures found { (f : Formula) → postfix f ≡ ops.now → IfSome result (λ shape. HasShape f sets shape) }
     ensures none { (f : Formula) → postfix f ≡ ops.now → IfNone result ((shape : Shape) → FitsShape f sets shape → ⊥) }

@@ -15,8 +15,9 @@ use crate::token::{Token, next_token};
 use pg_hoa_automaton::Shape;
 use std::alloc::Global;
 
-/// The contents of a text: the number of states, the start, the names of the propositions, for each proposition whether
-/// the controller sets it, the number of sets, the shape of the condition, and the edges of each state that has a line.
+/// The contents of a text: the number of states, the start state, the names of the propositions, for each proposition
+/// whether the controller sets it, the number of sets, the shape of the condition, and the edges of each state that has
+/// a line.
 #[derive(Drop)]
 pub struct Syntax {
     pub states: u32,
@@ -28,7 +29,9 @@ pub struct Syntax {
     pub lines: Vec<ReadState>,
 }
 
-/// Reads a text within the limits of automata. It doesn't check whether the edges agree.
+/// Reads a text within the limits of automata: at most 65,535 states, 16 propositions, 4,096 sets, and 16,777,216
+/// states times letters. It doesn't check whether the edges agree. It fails with `Wrong` only if the text says no
+/// automaton within these limits, deterministic or not, and with `Memory` if memory runs out.
 pub fn read_syntax(alloc: Global, bytes: &[u8]) -> Result<Syntax, Refusal>
     ensures found { IfOk result (IsSyntaxOf bytes.now) }
     ensures refused { IfErr result (SaysNothing bytes.now) }
@@ -49,7 +52,7 @@ pub fn read_syntax(alloc: Global, bytes: &[u8]) -> Result<Syntax, Refusal>
     })
 }
 
-/// What the headers of a text say, and its lines.
+/// Reads the headers of a text and its lines.
 fn parts(alloc: Global, bytes: &[u8]) -> Result<(Preamble, Vec<ReadState>), Refusal>
     ensures found { IfOk result (λ x. (h : KeptHead) × Reads (lex bytes.now) h (preamble_in x.0) (map line_in x.1.items)) }
     ensures refused { IfErr result (NeverReads (lex bytes.now)) }
@@ -61,7 +64,7 @@ fn parts(alloc: Global, bytes: &[u8]) -> Result<(Preamble, Vec<ReadState>), Refu
     Ok((preamble, lines))
 }
 
-/// In which ranges the numbers of the body lie.
+/// Returns the ranges of the numbers in the body.
 fn ranges(preamble: &Preamble) -> Ranges
     requires { length preamble.now.names.items ≤ 16 }
     ensures states { result.states ≡ bound preamble.now.states }
@@ -75,7 +78,7 @@ fn ranges(preamble: &Preamble) -> Ranges
     }
 }
 
-/// Only white space and comments may stand behind the end.
+/// Refuses anything but white space and comments after the end.
 fn end(bytes: &[u8]) -> Result<(), Refusal>
     ensures { Gives (λ _. 0) result (nothing_at (lex bytes.now)) }
 {
@@ -90,7 +93,8 @@ fn end(bytes: &[u8]) -> Result<(), Refusal>
     }
 }
 
-/// How many states there are: so many as the headers say, or else one more than the greatest number that is named.
+/// Returns the number of states: the number that the headers give, or else one more than the greatest state that is
+/// named.
 fn states_of(preamble: &Preamble, lines: &[ReadState]) -> u32
     ensures { state_count (preamble_in preamble.now) (map line_in lines.now) < 2 ^ 32
         → result ≡ state_count (preamble_in preamble.now) (map line_in lines.now) }
@@ -101,7 +105,7 @@ fn states_of(preamble: &Preamble, lines: &[ReadState]) -> u32
     }
 }
 
-/// One more than the greatest of the number and the states that the lines name, if it is below 2^32.
+/// Returns one more than the greatest of `start` and the states that the lines name, if it is below 2^32.
 fn states_named(lines: &[ReadState], start: u32) -> u32
     ensures { count_named start (map line_in lines.now) < 2 ^ 32
         → result ≡ count_named start (map line_in lines.now) }
@@ -113,7 +117,7 @@ fn states_named(lines: &[ReadState], start: u32) -> u32
     greatest.saturating_add(1)
 }
 
-/// Whether a table of so many states, for the letters of so many propositions, is within the limit.
+/// Whether a table of `states` states by the letters of `propositions` propositions is within the limit.
 fn are_few(states: u32, propositions: u32) -> bool
     requires { propositions ≤ 16 }
     ensures { MatchBool result (states * 2 ^ propositions ≤ 16777216) (states * 2 ^ propositions ≤ 16777216 → ⊥) }

@@ -18,9 +18,9 @@ pub enum Token<'a> {
     Identifier(&'a [u8]),
     /// An identifier before a colon.
     Header(&'a [u8]),
-    /// What stands between two quotes, backslashes included.
+    /// The bytes between two quotes, backslashes included.
     String(&'a [u8]),
-    /// What stands behind `@`.
+    /// The name after `@`.
     Alias(&'a [u8]),
     Body,
     End,
@@ -36,7 +36,7 @@ pub enum Token<'a> {
     Bar,
 }
 
-/// White space: tab, line feed, carriage return or space.
+/// Whether the byte is white space: tab, line feed, carriage return or space.
 fn is_space(byte: u8) -> bool
     ensures { result ≡ is_space byte }
 {
@@ -55,28 +55,28 @@ fn is_letter(byte: u8) -> bool
     byte.is_ascii_alphabetic()
 }
 
-/// A byte that a name may have behind its first.
+/// Whether a name may have the byte after its first one.
 fn is_inner(byte: u8) -> bool
     ensures { result ≡ is_inner byte }
 {
     is_letter(byte) || is_digit(byte) || byte == b'_' || byte == b'-'
 }
 
-/// How many digits stand in front.
+/// Returns the number of digits at the start.
 fn digits(bytes: &[u8]) -> usize
     ensures { result ≡ prefix_len is_digit bytes.now }
 {
     bytes.iter().take_while(|byte| is_digit(**byte)).count()
 }
 
-/// How many bytes of a name stand in front.
+/// Returns the number of bytes at the start that a name may have after its first one.
 fn inner(bytes: &[u8]) -> usize
     ensures { result ≡ prefix_len is_inner bytes.now }
 {
     bytes.iter().take_while(|byte| is_inner(**byte)).count()
 }
 
-/// The number that the digits write, if it is below 2^32.
+/// Returns the number that the digits write, if it is below 2^32.
 fn value_of(digits: &[u8]) -> Option<u32>
     ensures { SomeIff result (value_of digits.now < 2 ^ 32) (value_of digits.now) }
 {
@@ -90,7 +90,7 @@ fn value_of(digits: &[u8]) -> Option<u32>
     Some(value as u32)
 }
 
-/// The number whose digits stand in front, and what follows.
+/// Reads the number at the start, and returns it with the bytes after it.
 #[tactic(auto, using(pg_list_lemmas::proofs::Runs::run_within), unfolding(crate::specs::Mirrors::Scan::number_at))]
 fn number(bytes: &[u8]) -> Result<(Token<'_>, &[u8]), Refusal>
     ensures { Gives (λ x. (lexeme x.0, x.1.now)) result (number_at bytes.now) }
@@ -102,7 +102,7 @@ fn number(bytes: &[u8]) -> Result<(Token<'_>, &[u8]), Refusal>
     }
 }
 
-/// The identifier in front, or the header name with its colon, and what follows.
+/// Reads the identifier at the start, or the header name with its colon, and returns it with the bytes after it.
 #[tactic(auto, using(pg_list_lemmas::proofs::Runs::run_within), unfolding(crate::specs::Mirrors::Scan::name_at))]
 fn name(bytes: &[u8]) -> Result<(Token<'_>, &[u8]), Refusal>
     ensures { Gives (λ x. (lexeme x.0, x.1.now)) result (name_at bytes.now) }
@@ -114,7 +114,8 @@ fn name(bytes: &[u8]) -> Result<(Token<'_>, &[u8]), Refusal>
     }
 }
 
-/// The alias whose `@` stands in front of `bytes`, with `left` bytes left from the `@` on, and what follows.
+/// Reads the alias whose `@` comes right before `bytes`, with `left` bytes left from the `@` on. Returns the alias and
+/// the bytes after it.
 #[tactic(auto, using(pg_list_lemmas::proofs::Runs::run_within), unfolding(crate::specs::Mirrors::Scan::alias_at))]
 fn alias(bytes: &[u8], left: usize) -> Result<(Token<'_>, &[u8]), Refusal>
     ensures { Gives (λ x. (lexeme x.0, x.1.now)) result (alias_at bytes.now) }
@@ -127,7 +128,8 @@ fn alias(bytes: &[u8], left: usize) -> Result<(Token<'_>, &[u8]), Refusal>
     Ok((Token::Alias(name), rest))
 }
 
-/// The token that is one byte, which stands in front of `rest`, with `left` bytes left from it on, and what follows.
+/// Reads the token of one byte that comes right before `rest`, with `left` bytes left from it on. Returns the token and
+/// `rest`.
 #[tactic(auto, unfolding(crate::specs::Mirrors::Scan::sign_at))]
 fn sign(byte: u8, rest: &[u8], left: usize) -> Result<(Token<'_>, &[u8]), Refusal>
     ensures { Gives (λ x. (lexeme x.0, x.1.now)) result (sign_at byte rest.now) }
@@ -146,8 +148,8 @@ fn sign(byte: u8, rest: &[u8], left: usize) -> Result<(Token<'_>, &[u8]), Refusa
     }
 }
 
-/// White space or the `/*` of a comment in front, where no comment is open: how many are open behind it, and what
-/// follows. Nothing is taken where a token or the end stands.
+/// Takes a byte of white space or the `/*` of a comment at the start, where no comment is open. Returns the number of
+/// comments that are open after it and the bytes after it, or None at a token or the end of the text.
 #[tactic(auto, unfolding(crate::specs::Mirrors::Scan::gap_step))]
 fn outside_comments(bytes: &[u8]) -> Option<(u32, &[u8])>
     ensures { gap_step 0 bytes.now ≡ Some (option_map (λ x. (x.0, x.1.now)) result) }
@@ -159,8 +161,8 @@ fn outside_comments(bytes: &[u8]) -> Option<(u32, &[u8])>
     }
 }
 
-/// A part of the comments of which so many are open, the outermost with so many bytes left from its `/*` on: how many
-/// are open behind it, and what follows.
+/// Takes a part of the comments, `deep` of which are open, with `outermost` bytes left from the `/*` of the outermost
+/// one on. Returns the number of comments that are open after this part and the bytes after it.
 #[tactic(auto, unfolding(crate::specs::Mirrors::Scan::gap_step))]
 fn inside_comments(deep: u32, outermost: usize, bytes: &[u8]) -> Result<(u32, &[u8]), Refusal>
     requires some_open { 0 < deep }
@@ -181,8 +183,9 @@ fn inside_comments(deep: u32, outermost: usize, bytes: &[u8]) -> Result<(u32, &[
     }
 }
 
-/// One blank or a part of a comment, of which so many are open, the outermost with so many bytes left: how many are
-/// open behind it, and what follows. Nothing is taken where a token or the end stands.
+/// Takes one blank or a part of the comments, `deep` of which are open, with `outermost` bytes left from the outermost
+/// one on. Returns the number of comments that are open after it and the bytes after it, or None at a token or the end
+/// of the text.
 fn blank(deep: u32, outermost: usize, bytes: &[u8]) -> Result<Option<(u32, &[u8])>, Refusal>
     requires { deep ≤ 8192 }
     ensures { Gives (λ x. option_map (λ y. (y.0, y.1.now)) x) result (gap_step deep bytes.now) }
@@ -194,7 +197,7 @@ fn blank(deep: u32, outermost: usize, bytes: &[u8]) -> Result<Option<(u32, &[u8]
     }
 }
 
-/// What follows behind white space and comments.
+/// Skips white space and comments, and returns the bytes after them.
 fn blanks(bytes: &[u8]) -> Result<&[u8], Refusal>
     ensures { Gives (λ x. x.now) result (gap_from 0 bytes.now) }
 {
@@ -215,7 +218,7 @@ fn blanks(bytes: &[u8]) -> Result<&[u8], Refusal>
     }
 }
 
-/// The mark in front, which begins with a `-`, and what follows.
+/// Reads the mark at the start, which begins with a `-`, and returns it with the bytes after it.
 #[tactic(auto, unfolding(crate::specs::Mirrors::Scan::mark_at))]
 fn mark(bytes: &[u8]) -> Result<(Token<'_>, &[u8]), Refusal>
     ensures { Gives (λ x. (lexeme x.0, x.1.now)) result (mark_at bytes.now) }
@@ -231,7 +234,8 @@ fn mark(bytes: &[u8]) -> Result<(Token<'_>, &[u8]), Refusal>
     }
 }
 
-/// The string whose first quote stands in front of `bytes`, with `left` bytes left from the quote on, and what follows.
+/// Reads the string whose first quote comes right before `bytes`, with `left` bytes left from the quote on. Returns the
+/// string and the bytes after it.
 #[tactic(auto, unfolding(crate::specs::Mirrors::Scan::string_at))]
 fn string(bytes: &[u8], left: usize) -> Result<(Token<'_>, &[u8]), Refusal>
     ensures { Gives (λ x. (lexeme x.0, x.1.now)) result (string_at bytes.now) }
@@ -242,7 +246,8 @@ fn string(bytes: &[u8], left: usize) -> Result<(Token<'_>, &[u8]), Refusal>
     }
 }
 
-/// The bytes of one character of a string, and what follows; nothing at the quote that ends it.
+/// Returns the number of bytes of the first character of a string and the bytes after it, or `Some(None)` at the quote
+/// that ends the string, or None if the text ends within the string.
 #[tactic(auto, unfolding(crate::specs::Mirrors::Scan::character_at))]
 fn character(bytes: &[u8]) -> Option<Option<(usize, &[u8])>>
     ensures { option_map (λ x. option_map (λ y. (y.0, y.1.now)) x) result ≡ character_at bytes.now }
@@ -255,7 +260,7 @@ fn character(bytes: &[u8]) -> Option<Option<(usize, &[u8])>>
     }
 }
 
-/// How many bytes stand before the quote that ends a string.
+/// Returns the number of bytes before the quote that ends a string, if there is such a quote.
 fn string_len(bytes: &[u8]) -> Option<usize>
     ensures value { result ≡ string_len bytes.now }
     ensures within { IfSome result (λ n. n < length bytes.now) }
@@ -274,7 +279,7 @@ fn string_len(bytes: &[u8]) -> Option<usize>
     }
 }
 
-/// The token in front, where no blank stands, and what follows.
+/// Reads the token at the start, where there is no blank, and returns it with the bytes after it.
 #[tactic(auto, unfolding(crate::specs::Mirrors::Scan::solid_at))]
 fn solid(bytes: &[u8]) -> Result<(Token<'_>, &[u8]), Refusal>
     ensures { Gives (λ x. (lexeme x.0, x.1.now)) result (solid_at bytes.now) }
@@ -290,8 +295,8 @@ fn solid(bytes: &[u8]) -> Result<(Token<'_>, &[u8]), Refusal>
     }
 }
 
-/// The token at the front, behind blanks, how many bytes are left from it on, and the bytes after it; no token at the
-/// end.
+/// Reads the next token, after blanks, and returns it with the number of bytes left from it on and the bytes after it.
+/// There is no token at the end of the text.
 pub fn next_token(bytes: &[u8]) -> Result<(Option<Token<'_>>, usize, &[u8]), Refusal>
     ensures { Gives (λ x. (option_map lexeme x.0, lex x.2.now)) result (first (lex bytes.now)) }
 {
@@ -303,7 +308,7 @@ pub fn next_token(bytes: &[u8]) -> Result<(Option<Token<'_>>, usize, &[u8]), Ref
     Ok((Some(token), bytes.len(), rest))
 }
 
-/// What is wrong with a token, `left` bytes before the end, that can't stand where it stands.
+/// Returns the fault of a token that can't stand where it is, `left` bytes before the end.
 pub fn unexpected(token: Token<'_>, left: usize) -> PartFault {
     match token {
         Token::Alias(_) => PartFault::LeftOut(LeftOutName::Alias, left),

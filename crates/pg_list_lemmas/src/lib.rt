@@ -1,3 +1,3 @@
-//! What texts, games and automata have in common: numbers put in order, and runs of bytes. There is no code, only
+//! Common parts of texts, games and automata: numbers put in order, and runs of bytes. There is no code, only
 //! definitions and lemmas.
 #![tactic(auto)]

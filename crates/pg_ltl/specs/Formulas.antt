@@ -1,4 +1,4 @@
--- Formulas as people write them, and which words satisfy them. What isn't decided by a letter is said by negation, so that a formula that
+-- Formulas as people write them, and which words satisfy them. What a letter doesn't decide is stated by negation, so that a formula that
 -- can't fail is satisfied.
 use Rattle.std.specs.Prelude.{◌≡◌, ℕ, ◌+◌, ◌<◌, ◌≤◌, Bool, true}
 use Rattle.pg_ltl.specs.declared.formula.Prefix.{Prefix}
@@ -8,17 +8,17 @@ use Rattle.pg_ltl.specs.declared.formula.Infix.TheVariants.{Implies, Equivalent,
 
 pub data Formula : Type 0 where
   constant : Bool → Formula
-  -- by its number in the list of names
+  -- a proposition, by its number in the list of names
   proposition : ℕ → Formula
   bracket : Formula → Formula
   one : Prefix → Formula → Formula
   two : Infix → Formula → Formula → Formula
 
--- from t on, up to before s
+-- P holds from t on, up to but not including s
 abbrev pub Lasts : (ℕ → Type 0) → ℕ → ℕ → Type 0
 Lasts P t s = (r : ℕ) → t ≤ r → r < s → P r
 
--- the formula is satisfied from step t on of the word, of which `word t p` says whether the proposition p holds at step t
+-- the formula is satisfied from step t on of the word; `word t p` says whether the proposition p holds at step t
 abbrev pub Satisfies : (ℕ → ℕ → Bool) → Formula → ℕ → Type 0
 Satisfies word (constant value) t = value ≡ true
 Satisfies word (proposition p) t = word t p ≡ true
@@ -33,16 +33,16 @@ Satisfies word (two Exclusive f g) t = ¬ ((Satisfies word f t → Satisfies wor
 Satisfies word (two Or f g) t = ¬ ((¬ Satisfies word f t) × (¬ Satisfies word g t))
 Satisfies word (two And f g) t = Satisfies word f t × Satisfies word g t
 Satisfies word (two Also f g) t = Satisfies word f t × Satisfies word g t
--- g in the end, and f until then
+-- g at some step, and f until then
 Satisfies word (two Until f g) t = ¬ ((s : ℕ) → t ≤ s → Lasts (λ r. Satisfies word f r) t s → ¬ Satisfies word g s)
--- g for as long as f didn't hold before
+-- g as long as f hasn't held before
 Satisfies word (two Release f g) t = (s : ℕ) → t ≤ s → Lasts (λ r. ¬ Satisfies word f r) t s → Satisfies word g s
--- f for as long as g didn't hold yet
+-- f as long as g hasn't held yet
 Satisfies word (two Weak f g) t = (s : ℕ) → t ≤ s → Lasts (λ r. ¬ Satisfies word g r) t (s + 1) → Satisfies word f s
--- f in the end, and g until then and there too
+-- f at some step, and g until then and at that step too
 Satisfies word (two Strong f g) t = ¬ ((s : ℕ) → t ≤ s → Lasts (λ r. Satisfies word g r) t (s + 1) → ¬ Satisfies word f s)
 
--- the numbers of all propositions are below this one
+-- every proposition has a number below this one
 abbrev pub SpeaksOf : ℕ → Formula → Type 0
 SpeaksOf names (constant value) = Unit {0}
 SpeaksOf names (proposition p) = p < names

@@ -1,4 +1,4 @@
--- Negation normal form, and from which steps on a formula in this form holds of an endless word.
+-- Negation normal form, and from which steps on a formula in this form holds on an endless word.
 use Rattle.std.specs.Prelude.{◌≡◌, ℕ, ◌+◌, ◌≤◌, Bool, true, false}
 use Rattle.pg_ltl.specs.declared.formula.Prefix.TheVariants.{Not, Next, Finally, Globally}
 use Rattle.pg_ltl.specs.declared.formula.Infix.TheVariants.{Implies, Equivalent, Or, Exclusive, And, Until, Release, Weak, Strong, Also}
@@ -14,7 +14,7 @@ pub data NormalForm : Type 0 where
   until : NormalForm → NormalForm → NormalForm
   release : NormalForm → NormalForm → NormalForm
 
--- the formula holds from step t on of the word, of which `word t p` says whether the proposition p holds at step t
+-- the formula holds from step t on of the word; `word t p` says whether the proposition p holds at step t
 abbrev pub Holds : (ℕ → ℕ → Bool) → NormalForm → ℕ → Type 0
 Holds word top t = Unit {0}
 Holds word bottom t = ⊥

@@ -1,4 +1,4 @@
--- What a set of formulas asks of a letter, and of the word behind it: some choices.
+-- What a set of formulas asks of a letter, and of the word after it: a list of choices.
 use Rattle.std.specs.Prelude.{◌≡◌, ℕ, ◌+◌, Bool, true, false, List, [], ◌∷◌, ◌++◌, if◌then◌else◌, ◌⊎◌}
 use Rattle.pg_ltl.specs.NormalForms.{NormalForm, top, bottom, literal, both, either, next, until, release, Holds}
 
@@ -6,7 +6,7 @@ abbrev pub Each : {A : Type 0} → (A → Type 0) → List A → Type 0
 Each P [] = Unit {0}
 Each P (x ∷ xs) = P x × Each P xs
 
--- what is asked from the next step on, and which Untils are put off
+-- what must hold from the next step on, and which Untils are put off
 pub record Choice : Type 0 where
   pub asks : List NormalForm
   pub puts : List NormalForm
@@ -50,12 +50,12 @@ abbrev pub choices_of : (ℕ → Bool) → List NormalForm → List Choice
 choices_of letter [] = free ∷ []
 choices_of letter (f ∷ fs) = product (choices letter f) (choices_of letter fs)
 
--- an Until that holds, but not yet by its right side
+-- an Until that holds, but whose right side doesn't hold yet
 abbrev pub IsPutOff : (ℕ → ℕ → Bool) → NormalForm → ℕ → Type 0
 IsPutOff word (until f g) t = Holds word (until f g) t × (¬ Holds word g t)
 IsPutOff word _ t = ⊥
 
--- what is asked holds from the next step on, and what is put off is
+-- what is asked for holds from the next step on, and what is put off is indeed put off
 pub record IsRight (word : ℕ → ℕ → Bool) (t : ℕ) (c : Choice) : Type 0 where
   pub asks : Each (λ f. Holds word f (t + 1)) c.asks
   pub puts : Each (λ u. IsPutOff word u t) c.puts
@@ -64,7 +64,7 @@ abbrev pub IsAmong : List NormalForm → NormalForm → Type 0
 IsAmong [] f = ⊥
 IsAmong (g ∷ gs) f = (g ≡ f) ⊎ IsAmong gs f
 
--- one of the kept choices asks for no more, and puts off no more
+-- one of the kept choices asks for no more and puts off no more
 abbrev pub IsLeftOut : Choice → List Choice → Type 0
 IsLeftOut c [] = ⊥
 IsLeftOut c (d ∷ ds) = (Each (IsAmong c.asks) d.asks × Each (IsAmong c.puts) d.puts) ⊎ IsLeftOut c ds

@@ -10,7 +10,7 @@ use Rattle.pg_ltl.specs.Formulas.{Formula}
 use Rattle.pg_ltl.specs.FormulaTexts.{AreTokensOf, BeginsOne, BeginsNone}
 use Rattle.pg_ltl.specs.Words.{Word, name, sign, behind_blanks, word_at, Spells, Begins}
 
--- the number of a name: its place among those that are known, or how many these are
+-- the number of a name: its position among the known names, or their count if it isn't one of them
 abbrev pub number_of : List ℕ → List (List ℕ) → ℕ
 number_of w [] = 0
 number_of w (known ∷ names) = if bytes_eq known w then 0 else suc (number_of w names)
@@ -18,7 +18,7 @@ number_of w (known ∷ names) = if bytes_eq known w then 0 else suc (number_of w
 abbrev pub with_name : List ℕ → List (List ℕ) → List (List ℕ)
 with_name w names = if nat_lt (number_of w names) (length names) then names else names ++ (w ∷ [])
 
--- names in the order in which they first come, and tokens
+-- names in order of first appearance, and tokens
 pub record Noted : Type 0 where
   pub names : List (List ℕ)
   pub tokens : List Token
@@ -48,12 +48,13 @@ pub record Spelt (bytes : List ℕ) (names : List (List ℕ)) (f : Formula) : Ty
 abbrev pub SpellsNone : List ℕ → Type 0
 SpellsNone bytes = (names : List (List ℕ)) (f : Formula) → Spelt bytes names f → ⊥
 
--- nothing goes on behind these words with the one that stands there, if a word stands there
+-- if a word comes next, these words followed by it begin no formula
 abbrev pub IsWrong : Noted → Option (Word × List ℕ) → Type 0
 IsWrong n None = Unit {0}
 IsWrong n (Some found) = BeginsNone (note n found.0).tokens
 
--- The words before this byte can be gone on with so that they spell a formula; not so with what stands there, or the text ends there.
+-- The words before this byte can be continued so that they spell a formula. With the word at this byte they can't be, or no word begins
+-- there, or the text ends there.
 pub record StopsAt (bytes : List ℕ) (offset : ℕ) : Type 0 where
   pub words : List Word
   pub rest : List ℕ
@@ -62,7 +63,7 @@ pub record StopsAt (bytes : List ℕ) (offset : ℕ) : Type 0 where
   pub before : BeginsOne (noted words).tokens
   pub wrong : IsWrong (noted words) (word_at (behind_blanks rest))
 
--- words that can be gone on with have too many names
+-- words that can be continued to a formula have too many names
 pub record HasTooManyNames (bytes : List ℕ) : Type 0 where
   pub words : List Word
   pub rest : List ℕ
@@ -78,7 +79,7 @@ pub record HasTooManyOperators (bytes : List ℕ) : Type 0 where
   pub tokens : AreTokensOf (noted words).tokens formula
   pub many : 4096 < count_by is_operator (noted words).tokens
 
--- memory may run out on each text
+-- memory may run out on any text
 abbrev pub IsRefused : List ℕ → FormulaFault → Type 0
 IsRefused bytes OutOfMemory = Unit {0}
 IsRefused bytes (Syntax offset) = SpellsNone bytes × StopsAt bytes offset

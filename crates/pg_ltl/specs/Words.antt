@@ -1,4 +1,4 @@
--- The words of a text, which is cut into them from left to right.
+-- The words of a text, which is split into them from left to right.
 use Rattle.std.specs.Prelude.{◌≡◌, ℕ, Bool, true, false, ◌||◌, ◌&&◌, ◌==◌, nat_le, List, [], ◌∷◌, Option, Some, None, codes, drop, option_map}
 use Rattle.std.specs.Prelude.{if◌then◌else◌}
 use Rattle.std.specs.List.{prefix_len, take_while}
@@ -34,7 +34,7 @@ is_quoted b = nat_le 32 b && (if b == 127 then false else (if b == 34 then false
 unfoldable pub behind_blanks : List ℕ → List ℕ
 behind_blanks bytes = drop (prefix_len is_space bytes) bytes
 
--- the words that are no names
+-- the words that aren't names
 unfoldable pub reserved : List ℕ → Option Token
 reserved w =
     if bytes_eq w (codes "true") then Some (Constant true)
@@ -58,7 +58,7 @@ bare_at bytes = (word_or (take_while is_inner bytes) (reserved (take_while is_in
 unfoldable pub operator_of : ℕ → Option Prefix
 operator_of b = if b == 70 then Some Finally else (if b == 71 then Some Globally else (if b == 88 then Some Next else None))
 
--- F, G and X are operators before anything but a digit or `_`: so `GFa` is `G F a`
+-- F, G and X are operators unless a digit or `_` follows: `GFa` is `G F a`
 unfoldable pub makes_name : List ℕ → Bool
 makes_name [] = false
 makes_name (b ∷ rest) = is_digit b || b == 95
@@ -67,7 +67,7 @@ abbrev pub lettered : Option Prefix → ℕ → List ℕ → Word × List ℕ
 lettered None b rest = bare_at (b ∷ rest)
 lettered (Some op) b rest = if makes_name rest then bare_at (b ∷ rest) else (sign (Before op), rest)
 
--- behind the first quote
+-- after the opening quote
 abbrev pub closed_by_quote : List ℕ → List ℕ → Option (Word × List ℕ)
 closed_by_quote w [] = None
 closed_by_quote w (b ∷ rest) = if b == 34 then Some (name w, rest) else None
@@ -77,17 +77,17 @@ quoted_at bytes =
     if prefix_len is_quoted bytes == 0 then None
     else closed_by_quote (take_while is_quoted bytes) (drop (prefix_len is_quoted bytes) bytes)
 
--- the byte may stand there once more
+-- the byte may come once more
 unfoldable pub without : ℕ → List ℕ → List ℕ
 without b [] = []
 without b (c ∷ rest) = if c == b then rest else c ∷ rest
 
--- the byte has to stand there
+-- the byte must come next
 unfoldable pub behind : ℕ → Token → List ℕ → Option (Token × List ℕ)
 behind b t [] = None
 behind b t (c ∷ rest) = if c == b then Some (t, rest) else None
 
--- behind `<`: `>`, or `->`, or `=>`
+-- after `<`: `>`, or `->`, or `=>`
 unfoldable pub arrow_at : List ℕ → Option (Token × List ℕ)
 arrow_at [] = None
 arrow_at (b ∷ rest) = if b == 62 then Some (Before Finally, rest) else (if b == 45 || b == 61 then behind 62 (Between Equivalent) rest else None)
@@ -112,7 +112,7 @@ sign_at b rest =
     else (if b == 60 then arrow_at rest
     else option_map (λ t. (t, rest)) (single b)))))
 
--- the word at the front, where no blank stands, and what follows it
+-- the word at the start, without white space before it, and the rest
 unfoldable pub word_at : List ℕ → Option (Word × List ℕ)
 word_at [] = None
 word_at (b ∷ rest) =
@@ -120,12 +120,12 @@ word_at (b ∷ rest) =
     else (if b == 34 then quoted_at rest
     else option_map (λ x. (sign x.0, x.1)) (sign_at b rest))
 
--- the bytes are these words one after another, with blanks before, between and behind them
+-- the bytes are these words one after another, with any white space before, between and after them
 abbrev pub Spells : List ℕ → List Word → Type 0
 Spells bytes [] = behind_blanks bytes ≡ []
 Spells bytes (w ∷ ws) = (rest : List ℕ) × (word_at (behind_blanks bytes) ≡ Some (w, rest)) × Spells rest ws
 
--- the bytes begin with these words, and go on with the rest
+-- the bytes are these words followed by the rest
 abbrev pub Begins : List ℕ → List Word → List ℕ → Type 0
 Begins bytes [] rest = bytes ≡ rest
 Begins bytes (w ∷ ws) rest = (after : List ℕ) × (word_at (behind_blanks bytes) ≡ Some (w, after)) × Begins after ws rest

@@ -1,4 +1,4 @@
-//! Why a text is refused.
+//! Why a formula's text is refused.
 
 ghost use Rattle.std.specs.Prelude.{◌≡◌};
 
@@ -6,17 +6,17 @@ use std::alloc::{AllocError, AllocFailed};
 use std::error::Error;
 use std::fmt;
 
-/// Why a text of a formula is refused. Offsets count bytes from 0 and name the first byte of the word at fault; at the end of the
-/// text they are its length.
+/// Why the text of a formula is refused. Offsets count bytes from 0 and point at the first byte of the offending word, or equal the
+/// text's length if the fault is at its end.
 #[derive(Clone, Copy, Debug, PartialEq, Eq)]
 pub enum FormulaFault {
-    /// A growth was refused.
+    /// An allocation failed.
     OutOfMemory,
-    /// No word begins at this offset, or a name in quotes there doesn't end, or another word has to stand there.
+    /// No word begins at this offset, a quoted name that begins there doesn't end, or another word is expected there.
     Syntax(usize),
-    /// More than 16 names.
+    /// The text has more than 16 names.
     TooManyNames,
-    /// More than 4,096 operators.
+    /// The text has more than 4,096 operators.
     TooManyOperators,
 }
 

@@ -16,7 +16,7 @@ pub enum Prefix {
     Globally,
 }
 
-/// An operator between its operands.
+/// An operator between its two operands.
 #[derive(Clone, Copy, Debug, PartialEq, Eq)]
 pub enum Infix {
     /// `->`
@@ -29,30 +29,34 @@ pub enum Infix {
     Exclusive,
     /// `&`
     And,
-    /// `U`: the right one in the end, and the left one until then.
+    /// `U`: the right operand holds at some step, and the left one until then.
     Until,
-    /// `R`: the right one for as long as the left one didn't hold before.
+    /// `R`: the right operand holds as long as the left one hasn't held before.
     Release,
-    /// `W`: the left one for as long as the right one didn't hold yet.
+    /// `W`: the left operand holds as long as the right one hasn't held yet.
     Weak,
-    /// `M`: the left one in the end, and the right one until then and there too.
+    /// `M`: the left operand holds at some step, and the right one until then and at that step too.
     Strong,
-    /// `;`: both, as `&`. It binds least, and no brackets stand round it.
+    /// `;`: both hold, as with `&`. It binds least, and never stands inside brackets.
     Also,
 }
 
-/// A part of a formula. Operands are places in the list of its parts, and stand before it.
+/// A part of a formula. Its operands are given by their places in the list of parts, and come before it.
 #[derive(Clone, Copy, Debug, PartialEq, Eq)]
 pub enum FormulaNode {
+    /// `true` or `false`.
     Constant(bool),
     /// A proposition, by its number in a list of names.
     Proposition(u32),
+    /// A formula in brackets.
     Bracket(usize),
+    /// An operator before its operand.
     One(Prefix, usize),
+    /// An operator between its operands, the left one first.
     Two(Infix, usize, usize),
 }
 
-/// A formula as it is written: a list of its parts, each behind its operands, and the place of the whole formula.
+/// A formula as it is written: a list of its parts, each after its operands, and the place of the whole formula in that list.
 #[derive(Debug, Drop)]
 pub struct Formula {
     pub nodes: Vec<FormulaNode>,

@@ -1,4 +1,4 @@
-//! Formulas of linear temporal logic: as they are written, their normal forms, and the choices of a tableau.
+//! Formulas of linear temporal logic: as they are written, their negation normal forms, and the choices of their tableaux.
 #![tactic(auto)]
 
 mod fault;

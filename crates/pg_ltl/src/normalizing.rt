@@ -1,4 +1,4 @@
-//! Formulas to negation normal form.
+//! Turns formulas into negation normal form.
 
 ghost use Rattle.std.specs.Prelude.{◌≡◌, ◌≤◌, List, length, IfOk};
 ghost use Rattle.pg_ltl.specs.Formulas as formulas;
@@ -16,7 +16,7 @@ use crate::pair::{
 };
 use std::alloc::{AllocError, Global};
 
-/// An operator before its operand.
+/// Appends the parts for a prefix operator applied to `f`.
 fn prefixed(nodes: &mut Vec<NormalNode>, op: Prefix, f: Pair) -> Result<Pair, AllocError>
     requires ordered { AreNormalNodes nodes.old.items }
     requires f { IsWithin nodes.old.items f }
@@ -38,7 +38,7 @@ fn prefixed(nodes: &mut Vec<NormalNode>, op: Prefix, f: Pair) -> Result<Pair, Al
     }
 }
 
-/// `f W g`.
+/// Appends the parts for `f W g`.
 fn weak_until(nodes: &mut Vec<NormalNode>, f: Pair, g: Pair) -> Result<Pair, AllocError>
     requires ordered { AreNormalNodes nodes.old.items }
     requires f { IsWithin nodes.old.items f }
@@ -51,7 +51,7 @@ fn weak_until(nodes: &mut Vec<NormalNode>, f: Pair, g: Pair) -> Result<Pair, All
     Ok(negation(failure))
 }
 
-/// An operator between its operands.
+/// Appends the parts for an infix operator applied to `f` and `g`.
 fn joined(nodes: &mut Vec<NormalNode>, op: Infix, f: Pair, g: Pair) -> Result<Pair, AllocError>
     requires ordered { AreNormalNodes nodes.old.items }
     requires f { IsWithin nodes.old.items f }
@@ -73,7 +73,7 @@ fn joined(nodes: &mut Vec<NormalNode>, op: Infix, f: Pair, g: Pair) -> Result<Pa
     }
 }
 
-/// A part of a formula, whose operands have these places.
+/// Appends the parts for `node`, whose operands are looked up in `pairs` by their places.
 fn added(nodes: &mut Vec<NormalNode>, pairs: &[Pair], node: FormulaNode) -> Result<Pair, AllocError>
     requires ordered { AreNormalNodes nodes.old.items }
     requires within { AreWithin nodes.old.items pairs.now }
@@ -91,7 +91,8 @@ fn added(nodes: &mut Vec<NormalNode>, pairs: &[Pair], node: FormulaNode) -> Resu
     }
 }
 
-/// The formula in negation normal form, or its negation. The number of its parts is at most six times that of the formula.
+/// Returns the negation normal form of the formula if `positive`, or of its negation if not. It has at most six times as many parts as
+/// the formula. Fails only if an allocation fails.
 pub fn normal_form(
     alloc: Global,
     formula: &Formula,

@@ -1,4 +1,4 @@
-//! The words of a text as tokens, and its names.
+//! Turns the words of a text into tokens and a list of names.
 
 ghost use Rattle.std.specs.Prelude.{◌≡◌, ◌≤◌, ◌++◌, ◌∷◌, [], length, map, IfOk};
 ghost use Rattle.pg_ltl.specs.Texts.{note, number_of, with_name};
@@ -10,7 +10,7 @@ use crate::token::Token;
 use crate::word::{Word, behind_blanks, word_at};
 use std::alloc::{AllocError, Global};
 
-/// The names of a text in the order in which they first come, its tokens, and at which byte each token begins.
+/// The names of a text in order of first appearance, its tokens, and the offset of each token's first byte.
 #[derive(Drop)]
 pub struct Tokens {
     pub names: Vec<Vec<u8>>,
@@ -18,18 +18,18 @@ pub struct Tokens {
     pub offsets: Vec<usize>,
 }
 
-/// Why no more words are read.
+/// Why reading of words stopped.
 #[derive(Clone, Copy)]
 pub enum Stop {
-    /// The text ends there.
+    /// The text ended.
     End,
-    /// No word begins there.
+    /// No word begins at the next byte.
     NoWord,
-    /// There are more than 16 names.
+    /// There were more than 16 names.
     Overfull,
 }
 
-/// The tokens of a text up to a byte, and why they stop there.
+/// The tokens of a text up to the byte `end`, and why they stop there.
 #[derive(Drop)]
 pub struct Text {
     pub tokens: Tokens,
@@ -37,7 +37,7 @@ pub struct Text {
     pub end: usize,
 }
 
-/// The number of a name: its place among those that are known, or how many these are.
+/// Returns the number of a name: its position among the known names, or their count if it isn't one of them.
 fn number_of(names: &[Vec<u8>], name: &[u8]) -> usize
     ensures value { result ≡ number_of name.now (map (λ v. v.items) names.now) }
     ensures within { result ≤ length names.now }
@@ -50,7 +50,7 @@ fn number_of(names: &[Vec<u8>], name: &[u8]) -> usize
     names.len()
 }
 
-/// With one token more, which begins at this byte.
+/// Returns the tokens with one more, which begins at the byte `offset`.
 fn pushed(mut tokens: Tokens, token: Token, offset: usize) -> Result<Tokens, AllocError>
     ensures value { IfOk result (λ t. noted_in t ≡ note (noted_in tokens) (sign token)) }
     ensures offsets { IfOk result (λ t. t.offsets.items ≡ tokens.offsets.items ++ (offset ∷ [])) }
@@ -60,7 +60,7 @@ fn pushed(mut tokens: Tokens, token: Token, offset: usize) -> Result<Tokens, All
     Ok(tokens)
 }
 
-/// With this name, unless it is known.
+/// Returns the names, with this one appended if it is new.
 fn named(
     alloc: Global,
     mut names: Vec<Vec<u8>>,
@@ -77,7 +77,7 @@ fn named(
     Ok(names)
 }
 
-/// With one word more, which begins at this byte.
+/// Returns the tokens with one more word, which begins at the byte `offset`.
 fn noted(alloc: Global, tokens: Tokens, word: Word<'_>, offset: usize) -> Result<Tokens, AllocError>
     requires { length tokens.names.items ≤ 16 }
     ensures value { IfOk result (λ t. noted_in t ≡ note (noted_in tokens) (as_word word.entry)) }
@@ -98,7 +98,7 @@ fn noted(alloc: Global, tokens: Tokens, word: Word<'_>, offset: usize) -> Result
     }
 }
 
-/// Why no word is read in front of these bytes.
+/// Says why no word can be read at the start of these bytes.
 fn stop_at(bytes: &[u8]) -> Stop
     ensures { result ≡ stop_at bytes.now }
 {
@@ -108,7 +108,7 @@ fn stop_at(bytes: &[u8]) -> Stop
     }
 }
 
-/// The words of a text as tokens, and its names: up to its end, or to a byte where no word begins, or to the seventeenth name.
+/// Splits a text into tokens and names: up to its end, to the first byte where no word begins, or to the seventeenth name.
 pub fn text_of(alloc: Global, bytes: &[u8]) -> Result<Text, AllocError>
     ensures { IfOk result (λ text. IsTextOf bytes.now text.tokens text.stop text.end) }
 {

@@ -1,4 +1,4 @@
-//! The places of formulas and of their negations, in a list of parts.
+//! The places of formulas and of their negations in a list of parts.
 
 ghost use Rattle.std.specs.Prelude.{◌≡◌, ◌≤◌, length, IfOk, true, false};
 ghost use Rattle.pg_ltl.specs.NormalForms.{top, bottom, literal, both, either, next, until, release};
@@ -15,7 +15,7 @@ pub struct Pair {
     pub no: usize,
 }
 
-/// The places of the negation.
+/// Returns the places of the negation: the same two, swapped.
 pub fn negation(pair: Pair) -> Pair
     ensures { result ≡ negated pair }
 {
@@ -25,14 +25,14 @@ pub fn negation(pair: Pair) -> Pair
     }
 }
 
-/// The place of the formula, or of its negation.
+/// Returns the place of the formula if `positive`, or of its negation if not.
 pub fn side(pair: Pair, positive: bool) -> usize
     ensures { result ≡ side pair positive }
 {
     if positive { pair.yes } else { pair.no }
 }
 
-/// Puts a part behind the others. The answer is its place.
+/// Appends a part and returns its place.
 fn put(nodes: &mut Vec<NormalNode>, node: NormalNode) -> Result<usize, AllocError>
     requires ordered { AreNormalNodes nodes.old.items }
     requires reach { normal_reach node ≤ length nodes.old.items }
@@ -43,7 +43,7 @@ fn put(nodes: &mut Vec<NormalNode>, node: NormalNode) -> Result<usize, AllocErro
     Ok(place)
 }
 
-/// The constant that always holds.
+/// Appends the constant that always holds, and its negation.
 pub fn truth(nodes: &mut Vec<NormalNode>) -> Result<Pair, AllocError>
     requires ordered { AreNormalNodes nodes.old.items }
     ensures { IfOk result (λ pair. AddsPair nodes.old.items nodes.new.items pair top bottom) }
@@ -53,7 +53,7 @@ pub fn truth(nodes: &mut Vec<NormalNode>) -> Result<Pair, AllocError>
     Ok(Pair { yes, no })
 }
 
-/// A proposition.
+/// Appends a proposition and its negation.
 pub fn proposition(nodes: &mut Vec<NormalNode>, p: u32) -> Result<Pair, AllocError>
     requires ordered { AreNormalNodes nodes.old.items }
     ensures { IfOk result (λ pair. AddsPair nodes.old.items nodes.new.items pair (literal p true) (literal p false)) }
@@ -63,7 +63,7 @@ pub fn proposition(nodes: &mut Vec<NormalNode>, p: u32) -> Result<Pair, AllocErr
     Ok(Pair { yes, no })
 }
 
-/// `X f`.
+/// Appends `X f` and its negation.
 pub fn at_next(nodes: &mut Vec<NormalNode>, f: Pair) -> Result<Pair, AllocError>
     requires ordered { AreNormalNodes nodes.old.items }
     requires f { IsWithin nodes.old.items f }
@@ -75,7 +75,7 @@ pub fn at_next(nodes: &mut Vec<NormalNode>, f: Pair) -> Result<Pair, AllocError>
     Ok(Pair { yes, no })
 }
 
-/// `f | g`.
+/// Appends `f | g` and its negation.
 pub fn disjunction(nodes: &mut Vec<NormalNode>, f: Pair, g: Pair) -> Result<Pair, AllocError>
     requires ordered { AreNormalNodes nodes.old.items }
     requires f { IsWithin nodes.old.items f }
@@ -89,7 +89,7 @@ pub fn disjunction(nodes: &mut Vec<NormalNode>, f: Pair, g: Pair) -> Result<Pair
     Ok(Pair { yes, no })
 }
 
-/// `f U g`.
+/// Appends `f U g` and its negation.
 pub fn until(nodes: &mut Vec<NormalNode>, f: Pair, g: Pair) -> Result<Pair, AllocError>
     requires ordered { AreNormalNodes nodes.old.items }
     requires f { IsWithin nodes.old.items f }
@@ -103,7 +103,7 @@ pub fn until(nodes: &mut Vec<NormalNode>, f: Pair, g: Pair) -> Result<Pair, Allo
     Ok(Pair { yes, no })
 }
 
-/// Where both hold or neither does.
+/// Appends a formula that holds where `f` and `g` both hold or neither does, and returns its place.
 fn agreement(nodes: &mut Vec<NormalNode>, f: Pair, g: Pair) -> Result<usize, AllocError>
     requires ordered { AreNormalNodes nodes.old.items }
     requires f { IsWithin nodes.old.items f }
@@ -118,7 +118,7 @@ fn agreement(nodes: &mut Vec<NormalNode>, f: Pair, g: Pair) -> Result<usize, All
     Ok(place)
 }
 
-/// `f <-> g`.
+/// Appends `f <-> g` and its negation.
 pub fn equivalence(nodes: &mut Vec<NormalNode>, f: Pair, g: Pair) -> Result<Pair, AllocError>
     requires ordered { AreNormalNodes nodes.old.items }
     requires f { IsWithin nodes.old.items f }

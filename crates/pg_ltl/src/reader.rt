@@ -1,4 +1,4 @@
-//! Formulas from text.
+//! Reads formulas from text.
 
 ghost use Rattle.std.specs.Prelude.{◌≡◌, ◌≤◌, length, map, slice_get, IfOk, IfErr};
 ghost use Rattle.std.specs.List.{AllByRecursion, count_by};
@@ -21,14 +21,14 @@ fn is_operator(token: Token) -> bool
     matches!(token, Token::Before(_) | Token::Between(_))
 }
 
-/// How many operators there are.
+/// Counts the operators among the tokens.
 fn operators(tokens: &[Token]) -> usize
     ensures { result ≡ count_by is_operator tokens.now }
 {
     tokens.iter().filter(|token| is_operator(**token)).count()
 }
 
-/// The fault of a text that stops so at this byte, where all words before may stand.
+/// Returns the fault of a text whose words stop at the byte `end` for this reason, if all words before it are in order.
 fn stop_fault(stop: Stop, end: usize) -> FormulaFault
     ensures { result ≡ stop_fault stop end }
 {
@@ -39,7 +39,8 @@ fn stop_fault(stop: Stop, end: usize) -> FormulaFault
     }
 }
 
-/// The fault of a text in which the token of this number, counted from 0, may not stand, or which may not end behind its tokens.
+/// Returns the fault of a text in which the token at `place`, counted from 0, is out of place, or which must not end after its last
+/// token.
 fn fault_at(text: &Text, place: usize) -> FormulaFault
     ensures { result ≡ fault_or text.now.stop text.now.end (slice_get text.now.tokens.offsets.items place) }
 {
@@ -49,16 +50,17 @@ fn fault_at(text: &Text, place: usize) -> FormulaFault
     }
 }
 
-/// Reads a formula in Spot's syntax, and the names of its propositions in the order in which they first come: `! & | -> <-> xor`,
-/// `X F G U R W M`, `true`, `false`, brackets, and names, bare or in double quotes. `~`, `&&`, `||`, `=>`, `<=>`, `^`, `[]`, `<>`, `V`,
-/// `1` and `0` are other spellings. `;` stands between formulas all of which hold, and perhaps behind the last one. There may be at most
-/// 16 names, and 4,096 operators, of which `;` is one.
+/// Reads a formula in Spot's syntax, and returns it with the names of its propositions in order of first appearance. The syntax has
+/// `! & | -> <-> xor`, `X F G U R W M`, `true`, `false`, brackets, and names, bare or in double quotes. `~`, `&&`, `||`, `=>`, `<=>`,
+/// `^`, `[]`, `<>`, `V`, `1` and `0` are alternative spellings. `;` separates formulas that must all hold, and may also follow the last
+/// one. A text has at most 16 names, and at most 4,096 operators, `;` included.
 ///
-/// The text is read from left to right. Syntax names the first byte of the first word that may not stand where it stands, or where no word
-/// begins, or the text's length where more has to come. TooManyNames comes at the seventeenth name, and TooManyOperators at the end.
+/// The text is read from left to right. `Syntax` gives the offset of the first word that is out of place, or of the first byte where no
+/// word begins, or the text's length if more must follow. `TooManyNames` is returned at the seventeenth name, and `TooManyOperators` only
+/// at the end of the text. `OutOfMemory` is returned if an allocation fails.
 pub fn read_formula(alloc: Global, bytes: &[u8]) -> Result<(Vec<Vec<u8>>, Formula), FormulaFault>
     ensures found { IfOk result (λ x. Spelt bytes.now (map (λ v. v.items) x.0.items) (written x.1)) }
-    // Names as automata have them, of which alone the formula speaks.
+    // The names are valid names of an automaton's propositions, and the formula speaks of these propositions only.
     ensures names { IfOk result (λ x. AllByRecursion IsPropositionName (map (λ v. v.items) x.0.items)) }
     ensures speaks { IfOk result (λ x. SpeaksOf (length x.0.items) (written x.1)) }
     ensures few { IfOk result (λ x. length x.0.items ≤ 16) }

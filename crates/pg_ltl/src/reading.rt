@@ -1,4 +1,4 @@
-//! Tokens to the parts of a formula.
+//! Turns tokens into the parts of a formula.
 
 ghost use Rattle.std.specs.Prelude.{◌≡◌, ◌≤◌, ◌<◌, ◌∷◌, [], length, reverse, Some, IfOk, IfErr, MatchOption, option_map};
 ghost use Rattle.pg_ltl.specs.FormulaTexts.{AreTokensOf, left_rank, strength};
@@ -12,12 +12,12 @@ use crate::formula::{Formula, FormulaNode, Infix, Prefix};
 use crate::token::Token;
 use std::alloc::{AllocError, Global};
 
-/// Why no formula is read.
+/// Why no formula could be read.
 #[derive(Clone, Copy)]
 pub enum Misplaced {
-    /// A growth was refused.
+    /// An allocation failed.
     Memory,
-    /// The token of this number, counted from 0, may not stand there; or the tokens end there, where they may not.
+    /// The token at this position, counted from 0, is out of place; or the tokens end at this position, where they must not.
     At(usize),
 }
 
@@ -31,19 +31,19 @@ impl From<AllocError> for Misplaced {
     }
 }
 
-/// What waits for an operand.
+/// What is waiting for an operand.
 #[derive(Clone, Copy)]
 pub enum Frame {
-    /// A bracket that is open.
+    /// An open bracket.
     Paren,
-    /// An operator before its operand.
+    /// An operator that comes before its operand.
     Ahead(Prefix),
-    /// An operator behind its left operand, which is the part at this place.
+    /// An operator that follows its left operand, which is the part at this place.
     Left(Infix, usize),
 }
 
-/// A formula that is being read: its parts so far, what waits for an operand, the innermost last, and the place of the operand
-/// that stands there, unless one is due.
+/// A formula that is being read: its parts so far, the frames that are waiting for an operand, innermost last, and the place of the
+/// operand just read, or `None` if an operand is due.
 #[derive(Drop)]
 pub struct Reading {
     pub nodes: Vec<FormulaNode>,
@@ -51,7 +51,7 @@ pub struct Reading {
     pub operand: Option<usize>,
 }
 
-/// How strongly an operator binds.
+/// Returns how strongly an operator binds.
 fn strength(op: Infix) -> u32
     ensures { result ≡ strength op }
 {
@@ -65,7 +65,7 @@ fn strength(op: Infix) -> u32
     }
 }
 
-/// How strongly the left operand of an operator has to bind at least.
+/// Returns how strongly the left operand of an operator must bind at least.
 fn left_rank(op: Infix) -> u32
     ensures { result ≡ left_rank op }
 {
@@ -73,7 +73,7 @@ fn left_rank(op: Infix) -> u32
     strength + strength % 2
 }
 
-/// Takes the innermost frame away.
+/// Removes and returns the innermost frame.
 fn pop(frames: &mut Vec<Frame>) -> Option<Frame>
     ensures { MatchOption result ((reverse frames.old.items ≡ []) × (reverse frames.new.items ≡ []))
         (λ frame. reverse frames.old.items ≡ frame ∷ reverse frames.new.items) }
@@ -81,7 +81,7 @@ fn pop(frames: &mut Vec<Frame>) -> Option<Frame>
     frames.pop()
 }
 
-/// The reading in which the part at this place stands.
+/// Returns the reading in which the part at `place` is the operand just read.
 fn over(nodes: Vec<FormulaNode>, frames: Vec<Frame>, place: usize) -> Reading
     ensures { view result ≡ kept nodes.items frames.items (Some place) }
 {
@@ -92,7 +92,7 @@ fn over(nodes: Vec<FormulaNode>, frames: Vec<Frame>, place: usize) -> Reading
     }
 }
 
-/// The operator that waits there before its operand.
+/// Returns the prefix operator that is waiting in the frame, if there is one.
 fn ahead(frame: Frame) -> Option<Prefix>
     ensures { result ≡ ahead_of frame }
 {
@@ -102,7 +102,7 @@ fn ahead(frame: Frame) -> Option<Prefix>
     }
 }
 
-/// The operator that waits there with its left operand, if it binds at least so strongly.
+/// Returns the operator that is waiting in the frame with its left operand, if there is one and it binds at least as strongly as `bound`.
 fn taking(bound: u32, frame: Frame) -> Option<(Infix, usize)>
     ensures { result ≡ taking bound frame }
 {
@@ -116,7 +116,7 @@ fn taking(bound: u32, frame: Frame) -> Option<(Infix, usize)>
     }
 }
 
-/// The reading behind an operand, which is the part at this place: the operators before it take it.
+/// Returns the reading after an operand, which is the part at this place: the prefix operators before it take it.
 fn completed(
     mut nodes: Vec<FormulaNode>,
     mut frames: Vec<Frame>,
@@ -143,8 +143,8 @@ fn completed(
     }
 }
 
-/// The reading in which the operators that bind at least so strongly have taken their right operands, the innermost of which is the
-/// part at this place.
+/// Returns the reading in which all waiting operators that bind at least as strongly as `bound` have taken their right operands. The
+/// innermost right operand is the part at the place `operand`.
 fn reduced(
     bound: u32,
     mut nodes: Vec<FormulaNode>,
@@ -172,7 +172,7 @@ fn reduced(
     }
 }
 
-/// The reading behind an operand that is a part of its own.
+/// Returns the reading after an operand that is a single new part.
 #[tactic(auto, unfolding(crate::specs::Mirrors::Run::operand_at))]
 fn operand(mut reading: Reading, node: FormulaNode) -> Result<Reading, AllocError>
     ensures { IfOk result (λ r. view r ≡ operand_at (view reading) node) }
@@ -182,7 +182,7 @@ fn operand(mut reading: Reading, node: FormulaNode) -> Result<Reading, AllocErro
     completed(reading.nodes, reading.frames, place)
 }
 
-/// The reading in which one frame more waits.
+/// Returns the reading with one more waiting frame.
 fn opened(mut reading: Reading, frame: Frame) -> Result<Reading, AllocError>
     ensures { IfOk result (λ r. view r ≡ opened (view reading) frame) }
 {
@@ -194,7 +194,7 @@ fn opened(mut reading: Reading, frame: Frame) -> Result<Reading, AllocError>
     })
 }
 
-/// The reading behind a token where an operand is due.
+/// Returns the reading after a token, where an operand is due, or `None` if the token is out of place.
 #[tactic(auto, unfolding(crate::specs::Mirrors::Run::due_turn))]
 fn due_turn(reading: Reading, token: Token) -> Result<Option<Reading>, AllocError>
     ensures { IfOk result (λ r. option_map view r ≡ due_turn (view reading) token) }
@@ -208,7 +208,7 @@ fn due_turn(reading: Reading, token: Token) -> Result<Option<Reading>, AllocErro
     }
 }
 
-/// Whether an operator may wait behind these frames: a `;` in brackets may not.
+/// Whether an operator may wait after these frames: a `;` inside brackets may not.
 fn may_wait(frames: &[Frame], op: Infix) -> bool
     ensures { result ≡ may_wait (reverse frames.now) op }
 {
@@ -218,7 +218,7 @@ fn may_wait(frames: &[Frame], op: Infix) -> bool
     }
 }
 
-/// The reading behind an operator whose left operand stands there.
+/// Returns the reading after an infix operator whose left operand was just read, or `None` if the operator is out of place.
 #[tactic(auto, unfolding(crate::specs::Mirrors::Run::between_at))]
 fn between(op: Infix, reading: Reading) -> Result<Option<Reading>, AllocError>
     ensures { IfOk result (λ r. option_map view r ≡ between_at op (view reading)) }
@@ -232,7 +232,7 @@ fn between(op: Infix, reading: Reading) -> Result<Option<Reading>, AllocError>
     }
 }
 
-/// The reading behind a bracket that closes.
+/// Returns the reading after a closing bracket, or `None` if the bracket is out of place.
 #[tactic(auto, unfolding(crate::specs::Mirrors::Run::closed_at))]
 fn closed(reading: Reading) -> Result<Option<Reading>, AllocError>
     ensures { IfOk result (λ r. option_map view r ≡ closed_at (view reading)) }
@@ -249,7 +249,7 @@ fn closed(reading: Reading) -> Result<Option<Reading>, AllocError>
     }
 }
 
-/// The reading behind a token where the part at this place stands.
+/// Returns the reading after a token, where the part at `place` was just read, or `None` if the token is out of place.
 #[tactic(auto, unfolding(crate::specs::Mirrors::Run::over_turn))]
 fn over_turn(reading: Reading, place: usize, token: Token) -> Result<Option<Reading>, AllocError>
     ensures { IfOk result (λ r. option_map view r ≡ over_turn (view reading) place token) }
@@ -264,7 +264,7 @@ fn over_turn(reading: Reading, place: usize, token: Token) -> Result<Option<Read
     }
 }
 
-/// The reading behind one token more, if it may stand there.
+/// Returns the reading after one more token, or `None` if the token is out of place.
 #[tactic(auto, unfolding(crate::specs::Mirrors::Run::turn_at))]
 fn turn(reading: Reading, token: Token) -> Result<Option<Reading>, AllocError>
     ensures { IfOk result (λ r. option_map view r ≡ turn_at (view reading) token) }
@@ -275,7 +275,7 @@ fn turn(reading: Reading, token: Token) -> Result<Option<Reading>, AllocError>
     }
 }
 
-/// The parts of a formula that has ended, and the place of the whole, unless something waits for an operand.
+/// Returns the parts of a finished formula and the place of the whole, or `None` if something is still waiting for an operand.
 #[tactic(auto, unfolding(crate::specs::Mirrors::Run::whole_at))]
 fn whole(reading: Reading) -> Option<(Vec<FormulaNode>, usize)>
     ensures { option_map (λ x. (x.0.items, x.1)) result ≡ whole_at (view reading) }
@@ -287,7 +287,7 @@ fn whole(reading: Reading) -> Option<(Vec<FormulaNode>, usize)>
     }
 }
 
-/// The operand before a `;`.
+/// Returns the place of the operand before a `;`.
 fn also(frame: Frame) -> Option<usize>
     ensures { result ≡ also_of frame }
 {
@@ -297,7 +297,7 @@ fn also(frame: Frame) -> Option<usize>
     }
 }
 
-/// The place of the formula before the one `;` that waits there.
+/// Returns the place of the formula before a `;`, if that is all that is waiting.
 fn ended(mut frames: Vec<Frame>) -> Option<usize>
     ensures { result ≡ ended_place (reverse frames.items) }
 {
@@ -308,7 +308,7 @@ fn ended(mut frames: Vec<Frame>) -> Option<usize>
     }
 }
 
-/// The parts of the formula that ends here, and the place of the whole, if one ends.
+/// Returns the parts of the formula that ends here and the place of the whole, or `None` if no formula may end here.
 #[tactic(auto, unfolding(crate::specs::Mirrors::Run::finish_at))]
 fn finished(reading: Reading) -> Result<Option<(Vec<FormulaNode>, usize)>, AllocError>
     ensures { IfOk result (λ r. option_map (λ x. (x.0.items, x.1)) r ≡ finish_at (view reading)) }
@@ -322,7 +322,7 @@ fn finished(reading: Reading) -> Result<Option<(Vec<FormulaNode>, usize)>, Alloc
     }
 }
 
-/// The parts of the formula that the tokens spell, perhaps with a `;` behind it, and the place of the whole.
+/// Returns the parts of the formula that the tokens spell, with or without a `;` after it, and the place of the whole.
 fn parsed(alloc: Global, tokens: &[Token]) -> Result<(Vec<FormulaNode>, usize), Misplaced>
     ensures value { Gives (λ x. (x.0.items, x.1)) result (parse_at tokens.now) }
     ensures stops { IfErr result (StopsRun tokens.now) }
@@ -344,7 +344,8 @@ fn parsed(alloc: Global, tokens: &[Token]) -> Result<(Vec<FormulaNode>, usize), 
     }
 }
 
-/// The formula that the tokens spell, perhaps with a `;` behind it.
+/// Returns the formula that the tokens spell, with or without a `;` after it. If they spell none, `At` gives the position of the first
+/// token that is out of place, or the number of tokens if they end too early.
 pub fn formula_of(alloc: Global, tokens: &[Token]) -> Result<Formula, Misplaced>
     ensures found { IfOk result (λ f. AreTokensOf tokens.now (written f)) }
     ensures refused { IfErr result (IsMisread tokens.now) }

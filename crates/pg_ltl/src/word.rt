@@ -1,4 +1,4 @@
-//! The words of a text, one at a time.
+//! Splits a text into words, one at a time.
 
 ghost use Rattle.std.specs.Prelude.{◌≡◌, ◌∷◌, option_map};
 ghost use Rattle.std.specs.List.{prefix_len};
@@ -10,14 +10,14 @@ ghost use Rattle.pg_ltl.specs.Mirrors.Scan.{as_word};
 use crate::formula::{Infix, Prefix};
 use crate::token::Token;
 
-/// A word of a text, which borrows it: a name, or a token that is none.
+/// A word of a text, borrowed from it: a name, or a token that isn't a name.
 #[derive(Clone, Copy)]
 pub enum Word<'a> {
     Name(&'a [u8]),
     Sign(Token),
 }
 
-/// White space: tab, line feed, carriage return or space.
+/// Whether the byte is white space: tab, line feed, carriage return or space.
 fn is_space(byte: u8) -> bool
     ensures { result ≡ is_space byte }
 {
@@ -36,49 +36,49 @@ fn is_letter(byte: u8) -> bool
     byte.is_ascii_alphabetic()
 }
 
-/// A byte with which a bare name begins.
+/// Whether a bare name may begin with the byte: a letter, `_` or `.`.
 fn is_start(byte: u8) -> bool
     ensures { result ≡ is_start byte }
 {
     is_letter(byte) || byte == b'_' || byte == b'.'
 }
 
-/// A byte that a bare name may have behind its first.
+/// Whether a bare name may contain the byte after its first one.
 fn is_inner(byte: u8) -> bool
     ensures { result ≡ is_inner byte }
 {
     is_start(byte) || is_digit(byte)
 }
 
-/// A byte of a name in quotes.
+/// Whether a quoted name may contain the byte.
 fn is_quoted(byte: u8) -> bool
     ensures { result ≡ is_quoted byte }
 {
     byte >= 32 && byte != 127 && byte != b'"'
 }
 
-/// How many bytes of white space stand in front.
+/// Counts the bytes of white space at the start.
 fn blanks(bytes: &[u8]) -> usize
     ensures { result ≡ prefix_len is_space bytes.now }
 {
     bytes.iter().take_while(|byte| is_space(**byte)).count()
 }
 
-/// How many bytes of a bare name stand in front.
+/// Counts the bytes of a bare name at the start.
 fn inner(bytes: &[u8]) -> usize
     ensures { result ≡ prefix_len is_inner bytes.now }
 {
     bytes.iter().take_while(|byte| is_inner(**byte)).count()
 }
 
-/// How many bytes of a name in quotes stand in front.
+/// Counts the bytes of a quoted name at the start.
 fn quoted_inner(bytes: &[u8]) -> usize
     ensures { result ≡ prefix_len is_quoted bytes.now }
 {
     bytes.iter().take_while(|byte| is_quoted(**byte)).count()
 }
 
-/// What follows behind white space.
+/// Returns the rest of the bytes after the white space at their start.
 #[tactic(auto, using(pg_list_lemmas::proofs::Runs::run_within), unfolding(crate::specs::Words::behind_blanks))]
 pub fn behind_blanks(bytes: &[u8]) -> &[u8]
     ensures { result.now ≡ behind_blanks bytes.now }
@@ -87,7 +87,7 @@ pub fn behind_blanks(bytes: &[u8]) -> &[u8]
     rest
 }
 
-/// What a bare word means that is no name.
+/// Returns the meaning of a bare word that isn't a name.
 #[tactic(auto, unfolding(crate::specs::Words::reserved))]
 fn reserved(word: &[u8]) -> Option<Token>
     ensures { result ≡ reserved word.now }
@@ -113,7 +113,7 @@ fn reserved(word: &[u8]) -> Option<Token>
     }
 }
 
-/// The bare word in front, and what follows.
+/// Returns the bare word at the start, and the rest.
 #[tactic(auto, using(pg_list_lemmas::proofs::Runs::run_within), unfolding(crate::specs::Words::bare_at))]
 fn bare(bytes: &[u8]) -> (Word<'_>, &[u8])
     ensures { (as_word result.0, result.1.now) ≡ bare_at bytes.now }
@@ -125,7 +125,7 @@ fn bare(bytes: &[u8]) -> (Word<'_>, &[u8])
     }
 }
 
-/// The operator that is this letter.
+/// Returns the prefix operator that this letter stands for.
 #[tactic(auto, unfolding(crate::specs::Words::operator_of))]
 fn operator_of(byte: u8) -> Option<Prefix>
     ensures { result ≡ operator_of byte }
@@ -138,7 +138,7 @@ fn operator_of(byte: u8) -> Option<Prefix>
     }
 }
 
-/// Whether these bytes make a name of F, G or X.
+/// Whether an F, G or X followed by these bytes begins a name.
 #[tactic(auto, unfolding(crate::specs::Words::makes_name))]
 fn makes_name(bytes: &[u8]) -> bool
     ensures { result ≡ makes_name bytes.now }
@@ -149,7 +149,7 @@ fn makes_name(bytes: &[u8]) -> bool
     }
 }
 
-/// The word that begins with this letter, `_` or `.`, and what follows.
+/// Returns the word that begins with this letter, `_` or `.`, and the rest. `bytes` is `byte` followed by `rest`.
 fn lettered<'a>(byte: u8, rest: &'a [u8], bytes: &'a [u8]) -> (Word<'a>, &'a [u8])
     requires { bytes.now ≡ byte ∷ rest.now }
     ensures { (as_word result.0, result.1.now) ≡ lettered (operator_of byte) byte rest.now }
@@ -166,7 +166,7 @@ fn lettered<'a>(byte: u8, rest: &'a [u8], bytes: &'a [u8]) -> (Word<'a>, &'a [u8
     }
 }
 
-/// The name in quotes whose first quote stands in front of these bytes, and what follows.
+/// Returns the quoted name whose opening quote comes just before these bytes, and the rest after its closing quote.
 #[tactic(auto, using(pg_list_lemmas::proofs::Runs::run_within), unfolding(crate::specs::Words::quoted_at))]
 fn quoted(bytes: &[u8]) -> Option<(Word<'_>, &[u8])>
     ensures { option_map (λ x. (as_word x.0, x.1.now)) result ≡ quoted_at bytes.now }
@@ -182,7 +182,7 @@ fn quoted(bytes: &[u8]) -> Option<(Word<'_>, &[u8])>
     }
 }
 
-/// What follows where this byte may stand once more.
+/// Returns the bytes without this byte at their start, if it is there.
 #[tactic(auto, unfolding(crate::specs::Words::without))]
 fn without(byte: u8, bytes: &[u8]) -> &[u8]
     ensures { result.now ≡ without byte bytes.now }
@@ -193,7 +193,7 @@ fn without(byte: u8, bytes: &[u8]) -> &[u8]
     }
 }
 
-/// The token and what follows, where this byte has to stand.
+/// Returns the token and the rest after this byte, or `None` if the bytes don't begin with it.
 #[tactic(auto, unfolding(crate::specs::Words::behind))]
 fn behind(byte: u8, token: Token, bytes: &[u8]) -> Option<(Token, &[u8])>
     ensures { option_map (λ x. (x.0, x.1.now)) result ≡ behind byte token bytes.now }
@@ -204,7 +204,7 @@ fn behind(byte: u8, token: Token, bytes: &[u8]) -> Option<(Token, &[u8])>
     }
 }
 
-/// The token that begins with the `<` in front of these bytes, and what follows.
+/// Returns the token that begins with a `<` just before these bytes, and the rest.
 #[tactic(auto, unfolding(crate::specs::Words::arrow_at))]
 fn arrow(bytes: &[u8]) -> Option<(Token, &[u8])>
     ensures { option_map (λ x. (x.0, x.1.now)) result ≡ arrow_at bytes.now }
@@ -216,7 +216,7 @@ fn arrow(bytes: &[u8]) -> Option<(Token, &[u8])>
     }
 }
 
-/// The token that is this byte.
+/// Returns the token that consists of this byte alone.
 #[tactic(auto, unfolding(crate::specs::Words::single))]
 fn single(byte: u8) -> Option<Token>
     ensures { result ≡ single byte }
@@ -233,7 +233,7 @@ fn single(byte: u8) -> Option<Token>
     }
 }
 
-/// The token that begins with this byte, which is no letter and stands in front of `rest`, and what follows.
+/// Returns the token that begins with this byte, which isn't a letter and is followed by `rest`, and what follows the token.
 #[tactic(auto, unfolding(crate::specs::Words::sign_at))]
 fn sign(byte: u8, rest: &[u8]) -> Option<(Token, &[u8])>
     ensures { option_map (λ x. (x.0, x.1.now)) result ≡ sign_at byte rest.now }
@@ -251,7 +251,7 @@ fn sign(byte: u8, rest: &[u8]) -> Option<(Token, &[u8])>
     }
 }
 
-/// The word in front, where no blank stands, and what follows it.
+/// Returns the word at the start of the bytes, which must have no white space before it, and the rest after it.
 #[tactic(auto, unfolding(crate::specs::Words::word_at))]
 pub fn word_at(bytes: &[u8]) -> Option<(Word<'_>, &[u8])>
     ensures { option_map (λ x. (as_word x.0, x.1.now)) result ≡ word_at bytes.now }

@@ -1,2 +1,2 @@
--- What mirrors code: contracts of private functions cite it, and no definition that a reader has to believe does.
+-- Definitions that mirror code. Contracts of private functions cite them; no definition that a reader has to believe does.
 pub mod Tables

@@ -17,8 +17,8 @@ use pg_measure::{Bounds, Measure, View, row};
 use std::alloc::{AllocError, Global};
 use std::marker::Model;
 
-/// A measure within the bounds for each vertex. Contracts see the bounds and the list of the measures. After `zero` no
-/// call takes memory.
+/// A measure within the bounds for each vertex. In contracts a map is its bounds and the list of its measures. Only `zero` allocates
+/// memory.
 #[derive(Drop)]
 pub struct MeasureMap {
     bounds: Bounds,
@@ -37,8 +37,8 @@ impl Model for MeasureMap {
 }
 
 impl MeasureMap {
-    /// The map with zeros at each vertex. This call takes all the memory that the map will ever need, and fails only if
-    /// memory runs out or the size of the rows overflows.
+    /// Returns the map with zeros at each vertex. This call allocates all the memory that the map will ever need. It fails only if memory
+    /// runs out or the size of the rows overflows.
     pub fn zero(alloc: Global, vertices: u32, bounds: &Bounds) -> Result<MeasureMap, AllocError>
         ensures bounds { IfOk result (λ m. m.bounds ≡ bounds.now) }
         ensures zeros { IfOk result (λ m. m.measures ≡ zero_map bounds.now vertices) }
@@ -48,7 +48,7 @@ impl MeasureMap {
         Ok(MeasureMap { bounds, rows })
     }
 
-    /// The number of vertices.
+    /// Returns the number of vertices.
     #[inline(always)]
     pub fn len(&self) -> u32
         ensures value { result ≡ length self.now.measures }
@@ -57,7 +57,7 @@ impl MeasureMap {
         self.rows.len() as u32
     }
 
-    /// The bounds of its measures.
+    /// Returns the bounds of the measures.
     #[inline(always)]
     pub fn bounds(&self) -> &Bounds
         ensures { result.now ≡ self.now.bounds }
@@ -65,7 +65,7 @@ impl MeasureMap {
         &self.bounds
     }
 
-    /// The measure of a vertex.
+    /// Returns the measure of a vertex, which must be one of the map's.
     #[inline(always)]
     pub fn get(&self, v: Vertex) -> View<'_>
         requires { v < length self.now.measures }
@@ -80,7 +80,7 @@ impl MeasureMap {
         }
     }
 
-    /// Copies the measure of a vertex into `measure`, which must have room for the map's bounds.
+    /// Copies the measure of a vertex into `measure`, which must have room for exactly the map's bounds.
     pub fn copy_to(&self, v: Vertex, measure: &mut Measure)
         requires v { v < length self.now.measures }
         requires room { measure.old.width ≡ length self.now.bounds }
@@ -89,7 +89,8 @@ impl MeasureMap {
         measure.set(self.get(v));
     }
 
-    /// Raises the measure of a vertex to at least `m`: the join with one update. True if and only if it rose.
+    /// Raises the measure of a vertex to at least `m`, which must be within the bounds: the join with a single update. Returns whether it
+    /// rose.
     #[inline(always)]
     pub fn raise(&mut self, v: Vertex, m: View) -> bool
         requires v { v < length self.old.measures }
@@ -130,7 +131,7 @@ impl MeasureMap {
         self.covers_at(lines.priority(v), v, w)
     }
 
-    /// Whether the measure of `v` covers that of `w` at a priority.
+    /// Whether the measure of `v` covers that of `w` at this priority.
     #[inline(always)]
     pub fn covers_at(&self, priority: u32, v: Vertex, w: Vertex) -> bool
         requires v { v < length self.now.measures }
@@ -142,8 +143,7 @@ impl MeasureMap {
         self.covers(v.0 as usize, w.0 as usize, front, priority % 2 == 1)
     }
 
-    /// Lifts a vertex: its measure becomes the least one that serves it, if that is above its measure. True if and only
-    /// if it rose.
+    /// Lifts a vertex: sets its measure to the least one that serves it, if that is above its current measure. Returns whether it rose.
     pub fn lift<G: Lines>(&mut self, lines: &G, v: Vertex) -> bool
         requires held { IsSome (G.line lines.now v) }
         requires within { AreWithin (length self.old.measures) (G.line lines.now) }
@@ -172,7 +172,7 @@ impl MeasureMap {
         true
     }
 
-    /// The least vertex that can be lifted; None if and only if the map is closed.
+    /// Returns the least vertex that can be lifted, or `None` if and only if the map is closed.
     pub fn first_liftable<G: Lines>(&self, lines: &G) -> Option<Vertex>
         requires { AreWithin (length self.now.measures) (G.line lines.now) }
         ensures fits { All (Fits self.now.bounds) self.now.measures }
@@ -191,8 +191,8 @@ impl MeasureMap {
         None
     }
 
-    /// Lifts each vertex that can be lifted, from 0 up. True if and only if one rose; otherwise the map is closed.
-    /// Afterwards each measure covers what some or all of the vertex's successors had before.
+    /// Lifts each vertex that can be lifted, from 0 up. Returns whether any of them rose; if not, the map is closed. Afterwards the
+    /// measure of each vertex covers the earlier measures of some of its successors if Even owns it, or of all of them if Odd does.
     pub fn lift_each<G: Lines>(&mut self, lines: &G) -> bool
         requires { AreWithin (length self.old.measures) (G.line lines.now) }
         ensures bounds { self.new.bounds ≡ self.old.bounds }
@@ -233,7 +233,7 @@ impl MeasureMap {
         self.covers_successors(at, lines.owner(v), lines.successors(v), front, strict)
     }
 
-    /// Whether this map is at most the other, at each vertex.
+    /// Whether this map is at most the other one at each vertex.
     pub(crate) fn is_at_most(&self, other: &MeasureMap) -> bool
         requires bounds { self.now.bounds ≡ other.now.bounds }
         requires size { length self.now.measures ≡ length other.now.measures }
@@ -261,7 +261,7 @@ impl MeasureMap {
         }
     }
 
-    /// The row of a vertex.
+    /// Returns the row of a vertex.
     #[inline(always)]
     fn row(&self, v: usize) -> &[u32]
         requires { v < length self.now.measures }
@@ -283,8 +283,8 @@ impl MeasureMap {
         self.rows.is_top(v as u32)
     }
 
-    /// Whether the first `front` components of `a` are at most those of `b`; where both are at most each other, either
-    /// answer. Top is above every list.
+    /// Whether the first `front` components of `a` are at most those of `b`. If they are equal, the result may be either. Top is above
+    /// every list.
     #[inline(always)]
     fn is_less(&self, a: usize, b: usize, front: usize) -> bool
         requires a { a < length self.now.measures }
@@ -309,7 +309,7 @@ impl MeasureMap {
         row::covers(self.row(v), self.row(w), front, strict)
     }
 
-    /// Whether the measure of `v` covers those of some of the vertices, or of all: some for Even, all for Odd.
+    /// Whether the measure of `v` covers the measure of some of the vertices, if the owner is Even, or of all of them, if it is Odd.
     fn covers_successors(
         &self,
         v: usize,
@@ -332,7 +332,7 @@ impl MeasureMap {
         }
     }
 
-    /// Whether the measure of `v` covers that of one of the vertices.
+    /// Whether the measure of `v` covers that of at least one of the vertices.
     fn covers_one(&self, v: usize, successors: &[Vertex], front: usize, strict: bool) -> bool
         requires v { v < length self.now.measures }
         requires successors { All (λ w. w < length self.now.measures) successors.now }
@@ -364,7 +364,8 @@ impl MeasureMap {
         true
     }
 
-    /// The successor that the owner would rather cover.
+    /// Returns the successor that the owner prefers to cover: for Even the one with the least measure in the first `front` components,
+    /// for Odd the one with the greatest.
     fn best_of(&self, owner: Player, successors: &[Vertex], front: usize) -> usize
         requires successors { All (λ w. w < length self.now.measures) successors.now }
         requires nonempty { 0 < length successors.now }
@@ -383,7 +384,7 @@ impl MeasureMap {
         best
     }
 
-    /// Whether the owner would rather cover `a` than `b`.
+    /// Whether the owner prefers to cover `a` rather than `b`.
     fn is_better(&self, owner: Player, a: usize, b: usize, front: usize) -> bool
         requires a { a < length self.now.measures }
         requires b { b < length self.now.measures }
@@ -398,7 +399,7 @@ impl MeasureMap {
         }
     }
 
-    /// Gives the vertex `to`, which isn't at top, the least measure that covers that of `from` in the first `front`
+    /// Sets the measure of the vertex `to`, which isn't at top, to the least one that covers the measure of `from` in the first `front`
     /// components.
     #[inline(always)]
     fn step(&mut self, from: usize, to: usize, front: usize, strict: bool)
@@ -416,7 +417,7 @@ impl MeasureMap {
             .step(from as u32, to as u32, self.bounds.pairs(), front, strict);
     }
 
-    /// Gives a vertex top.
+    /// Sets the measure of a vertex to top.
     #[inline(always)]
     fn put_top(&mut self, v: usize)
         requires { v < length self.old.measures }
@@ -426,7 +427,7 @@ impl MeasureMap {
         self.rows.set_top(v as u32);
     }
 
-    /// Gives a vertex, which isn't at top, a list of the bounds.
+    /// Sets the measure of a vertex, which isn't at top, to a list within the bounds.
     #[inline(always)]
     fn write_list(&mut self, v: usize, list: &[u32])
         requires v { v < length self.old.measures }
@@ -438,7 +439,7 @@ impl MeasureMap {
         self.rows.set(v as u32, list);
     }
 
-    /// Whether the measure of a vertex is at most that in the other map.
+    /// Whether the measure of a vertex is at most its measure in the other map.
     fn is_at_most_at(&self, other: &MeasureMap, v: usize) -> bool
         requires bounds { self.now.bounds ≡ other.now.bounds }
         requires first { v < length self.now.measures }
@@ -454,8 +455,8 @@ impl MeasureMap {
     }
 }
 
-/// Lifts in passes over all vertices until none can be lifted. The map becomes the least closed map that is at least
-/// what it was. From zeros that is the least progress measure.
+/// Lifts in passes over all vertices until none can be lifted. The map becomes the least closed map that is at least the original one.
+/// Starting from zeros, that is the least progress measure.
 pub fn lift_to_end<G: Lines>(map: &mut MeasureMap, lines: &G)
     requires { AreWithin (length map.old.measures) (G.line lines.now) }
     ensures bounds { map.new.bounds ≡ map.old.bounds }

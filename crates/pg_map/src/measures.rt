@@ -1,4 +1,4 @@
-//! An interface to maps of measures, however they store them.
+//! An interface to maps of measures, however they are stored.
 
 ghost use Rattle.std.specs.Prelude.{◌≡◌, ◌↔◌, ℕ, ◌<◌, None, length, Contains, IsTrue, IsSome, IfSome, IfNone};
 ghost use Rattle.std.specs.List.Sorted.{IsStrictlyIncreasing};
@@ -10,38 +10,39 @@ use crate::{Lines, MeasureMap};
 use pg_arena::Vertex;
 use pg_measure::{Bounds, View};
 
-/// A map from vertices to measures that only answers questions; it may store rows or compute them.
+/// A read-only map from vertices to measures. It may store rows or compute them.
 pub trait Measures {
     ghost map: { Self → MapValue };
 
-    /// How many vertices the map has.
+    /// Returns the number of vertices.
     fn len(&self) -> u32
         ensures value { result ≡ length (map self.now).measures }
         ensures map { IsMap (map self.now).bounds result (map self.now).measures };
 
-    /// The bounds of its measures.
+    /// Returns the bounds of the measures.
     fn bounds(&self) -> &Bounds
         ensures { result.now ≡ (map self.now).bounds };
 
-    /// Whether a vertex is at top.
+    /// Whether the measure of a vertex is top.
     fn is_top(&self, v: Vertex) -> bool
         requires { v < length (map self.now).measures }
         ensures { IsTrue result ↔ (measure_at (map self.now).measures v ≡ None) };
 
-    /// The measure of a vertex: lent from the map where it keeps rows, and else written into the room that is lent.
+    /// Returns the measure of a vertex, borrowed from the map if it stores rows, or else written into `room`, which must have a number
+    /// for each bound.
     fn row<'a>(&'a self, v: Vertex, room: &'a mut [u32]) -> View<'a>
         requires v { v < length (map self.now).measures }
         requires room { length room.old ≡ length (map self.now).bounds }
         ensures { measure_in result ≡ measure_at (map self.now).measures v };
 
-    /// Whether `v` is served by `w`: its measure covers that of `w` at the priority of `v`.
+    /// Whether `w` serves `v`: the measure of `v` covers that of `w` at the priority of `v`.
     fn serves<G: Lines>(&self, lines: &G, v: Vertex, w: Vertex) -> bool
         requires held { IsSome (G.line lines.now v) }
         requires v { v < length (map self.now).measures }
         requires w { w < length (map self.now).measures }
         ensures { IsTrue result ↔ IsServedBy (map self.now).bounds (G.line lines.now) (map self.now).measures v w };
 
-    /// The first successor of `v` that serves it.
+    /// Returns the first successor of `v` that serves it, or `None` if no successor does.
     fn first_serving<G: Lines>(&self, lines: &G, v: Vertex) -> Option<Vertex>
         requires held { IsSome (G.line lines.now v) }
         requires within { AreWithin (length (map self.now).measures) (G.line lines.now) }

@@ -1,4 +1,4 @@
-//! Rows of numbers in one list, each of which holds a measure as `pg_measure::row` keeps it.
+//! Rows of numbers in one list. Each holds a measure in the format of `pg_measure::row`.
 
 ghost use Rattle.std.specs.Prelude.{◌≡◌, Some, None, ◌+◌, ◌-◌, ◌*◌, ◌<◌, ◌≤◌, length, replicate, slice_set, IfOk, MatchBool};
 ghost use Rattle.pg_measure.specs.Measures.{Fits};
@@ -10,7 +10,7 @@ use pg_measure::row;
 use std::alloc::{AllocError, Global};
 use std::marker::Model;
 
-/// Rows of one width. Contracts see the measure in each. After `zeros` no call takes memory.
+/// Rows of equal width. In contracts a table is the measures of its rows. Only `zeros` allocates memory.
 #[derive(Drop)]
 pub(crate) struct RowTable {
     width: usize,
@@ -29,7 +29,7 @@ impl Model for RowTable {
 }
 
 impl RowTable {
-    /// So many rows of zeros. It fails only if memory runs out or the size of the list overflows.
+    /// Returns `count` rows of zeros. It fails only if memory runs out or the size of the list overflows.
     pub(crate) fn zeros(alloc: Global, width: usize, count: usize) -> Result<RowTable, AllocError>
         requires { 0 < width }
         ensures width { IfOk result (λ r. r.width ≡ width) }
@@ -46,7 +46,7 @@ impl RowTable {
         })
     }
 
-    /// How many rows there are.
+    /// Returns the number of rows.
     #[inline(always)]
     pub(crate) fn len(&self) -> usize
         ensures { result ≡ length self.now.measures }
@@ -54,7 +54,7 @@ impl RowTable {
         self.count
     }
 
-    /// The row at a place.
+    /// Returns the row at a place.
     #[inline(always)]
     pub(crate) fn row(&self, place: u32) -> &[u32]
         requires { place < length self.now.measures }
@@ -65,7 +65,7 @@ impl RowTable {
         &self.cells[start..start + self.width]
     }
 
-    /// Whether the row at a place is that of top.
+    /// Whether the row at a place holds top.
     #[inline(always)]
     pub(crate) fn is_top(&self, place: u32) -> bool
         requires { place < length self.now.measures }
@@ -75,8 +75,8 @@ impl RowTable {
         self.cells[place as usize * self.width] != 0
     }
 
-    /// Writes into the row at `place` the least measure of the bounds that covers that of the row at `source` in the
-    /// first `front` components.
+    /// Writes into the row at `place` the least measure within the bounds that covers the measure of the row at `source` in the first
+    /// `front` components.
     pub(crate) fn step(
         &mut self,
         source: u32,
@@ -116,7 +116,7 @@ impl RowTable {
         write_list(&mut self.cells, self.count, place as usize, list);
     }
 
-    /// Makes the row at a place that of top.
+    /// Writes top into the row at a place.
     pub(crate) fn set_top(&mut self, place: u32)
         requires { place < length self.old.measures }
         ensures width { self.new.width ≡ self.old.width }
@@ -126,7 +126,7 @@ impl RowTable {
     }
 }
 
-/// Copies the row at `source` over that at `place`, which it may be.
+/// Copies the row at `source` over the row at `place`, which may be the same.
 fn copy_row(cells: &mut [u32], count: usize, width: usize, source: usize, place: usize)
     requires filled { length cells.old ≡ count * width }
     requires source { source < count }
@@ -142,8 +142,8 @@ fn copy_row(cells: &mut [u32], count: usize, width: usize, source: usize, place:
     cells.copy_within(from..from + width, place * width);
 }
 
-/// Writes into the row at `place` the least measure of the bounds that covers that of the row at `source` in the first
-/// `front` components.
+/// Writes into the row at `place` the least measure within the bounds that covers the measure of the row at `source` in the first `front`
+/// components.
 fn write_step(
     cells: &mut [u32],
     bounds: &[(u32, u32)],
@@ -183,7 +183,7 @@ fn write_list(cells: &mut [u32], count: usize, place: usize, list: &[u32])
     set_row(&mut cells[start..start + width], list);
 }
 
-/// Makes a list of a row.
+/// Writes a list into a row.
 fn set_row(row: &mut [u32], list: &[u32])
     requires { length row.old ≡ length list.now + 1 }
     ensures length { length row.new ≡ length row.old }
@@ -193,7 +193,7 @@ fn set_row(row: &mut [u32], list: &[u32])
     row[1..].copy_from_slice(list);
 }
 
-/// Makes the row at `place` that of top.
+/// Writes top into the row at `place`.
 fn write_top(cells: &mut [u32], count: usize, width: usize, place: usize)
     requires wide { 0 < width }
     requires filled { length cells.old ≡ count * width }
@@ -204,7 +204,7 @@ fn write_top(cells: &mut [u32], count: usize, width: usize, place: usize)
     mark_row(&mut cells[start..start + width]);
 }
 
-/// Marks a row as that of top.
+/// Writes top into a row.
 fn mark_row(row: &mut [u32])
     requires { 0 < length row.old }
     ensures length { length row.new ≡ length row.old }

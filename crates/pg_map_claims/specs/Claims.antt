@@ -41,8 +41,9 @@ abbrev pub IsBackedBy : BoundList → (ℕ → Option Line) → List MeasureValu
 IsBackedBy bounds lines g claims k w =
     IsClaimJustified bounds lines claims k (measure_at g w) ⊎ IsBackedByClaim bounds lines claims k w
 
--- Claims are backed over a map g, which is at most every map in question: each is of a vertex that has a line, and backed by all
--- its successors where Even owns it, by some where Odd does; and Odd wins the cycles of leads.
+-- Claims are backed over a map g, which is at most every map in question: each is of a vertex that has a line, and is backed by all
+-- successors of the vertex if Even owns it, and by some successor if Odd does; and Odd wins the cycles of claims that lead to one
+-- another.
 pub record AreBacked (bounds : BoundList) (lines : ℕ → Option Line) (g : List MeasureValue) (claims : ClaimSet) : Type 0 where
   pub held : (k : ℕ) → k < claims.count → IsSome (lines (claims.vertex k))
   pub backed : (k : ℕ) → k < claims.count → SomeOrAll (opponent (claim_line lines claims k).owner)

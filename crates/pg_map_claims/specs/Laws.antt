@@ -6,7 +6,7 @@ use Rattle.pg_map.specs.Maps.{IsMap, IsClosed, MapAtMost, StaysUnder, IsNeverAbo
 use Rattle.pg_map_claims.specs.Claims.{ClaimSet, AreBacked, HasClaimed, IsMapClaimed}
 use Rattle.pg_map_claims.specs.Known.{known_map}
 
--- where claims are backed over a map g each closed map that is at least g has what they claim
+-- if claims are backed over a map g, each closed map that is at least g has what they claim
 abbrev pub ClaimsHold : Type 0
 ClaimsHold =
     (bounds : BoundList) (lines : ℕ → Option Line) (g : List MeasureValue) (claims : ClaimSet) → AreBacked bounds lines g claims
@@ -18,13 +18,13 @@ ClaimedStaysUnder =
     (bounds : BoundList) (lines : ℕ → Option Line) (g f : List MeasureValue) (claims : ClaimSet) → length f ≡ length g
     → AreBacked bounds lines g claims → IsMapClaimed g f claims → StaysUnder bounds lines g f
 
--- and never above where g is never above
+-- and it is never above if g is never above
 abbrev pub ClaimedIsNeverAbove : Type 0
 ClaimedIsNeverAbove =
     (bounds : BoundList) (lines : ℕ → Option Line) (g f : List MeasureValue) (claims : ClaimSet) → length f ≡ length g
     → IsNeverAbove bounds lines g → AreBacked bounds lines g claims → IsMapClaimed g f claims → IsNeverAbove bounds lines f
 
--- zeros are known
+-- the map of zeros is never above
 abbrev pub ZerosAreKnown : Type 0
 ZerosAreKnown =
     (bounds : BoundList) (lines : ℕ → Option Line) (count : ℕ) → IsNeverAbove bounds lines (known_map bounds (replicate count false))

@@ -10,7 +10,8 @@ use pg_arena::{Player, Vertex};
 use pg_map::Lines;
 use pg_map_ranks::Ladder;
 
-/// Whether `w` needs no claim, or has one of at least a rank before the end.
+/// Whether `w` backs a claim: it needs no claim itself, is known to have top, or has a claim of at least the rank `low` before the
+/// place `end`.
 #[inline]
 fn backs(claims: &Claims, known: &[bool], guess: usize, low: u32, end: u32, w: Vertex) -> bool
     requires { w < length known.now }
@@ -25,7 +26,7 @@ fn backs(claims: &Claims, known: &[bool], guess: usize, low: u32, end: u32, w: V
     }
 }
 
-/// Whether one of the vertices does.
+/// Whether one of the vertices backs the claim.
 fn one_backs(
     claims: &Claims,
     known: &[bool],
@@ -45,7 +46,7 @@ fn one_backs(
     false
 }
 
-/// Whether all do.
+/// Whether all of the vertices back the claim.
 fn all_back(
     claims: &Claims,
     known: &[bool],
@@ -65,8 +66,8 @@ fn all_back(
     true
 }
 
-/// Checks a claim: at its place stands the priority of its vertex, and all successors back it where Even owns that, or one where Odd
-/// does. These claims are sought around a guess of how many of the same vertex stand before them.
+/// Checks a claim: its place has the priority of its vertex, and all successors back the claim if Even owns the vertex, or one if
+/// Odd does. The claims of a successor are searched around a guess of how many of them stand before the one that is needed.
 pub(crate) fn is_good_claim<G: Lines>(
     lines: &G,
     ladder: &Ladder,

@@ -15,7 +15,8 @@ use pg_check_order::are_nested;
 use pg_map::{Lines, Measures};
 use pg_map_ranks::{Ladder, RankMap};
 
-/// Checks each claim. As many claims of a successor may stand before the one that it needs as stand before it.
+/// Checks each claim. The guess is that as many claims of a successor stand before the one that is needed as claims of this vertex
+/// stand before this claim.
 fn are_good_claims<G: Lines>(lines: &G, ladder: &Ladder, claims: &Claims, known: &[bool]) -> bool
     requires { AreWithin (length known.now) (G.line lines.now) }
     ensures { OnTrue result (AreGoodClaims (G.line lines.now) ladder.now claims.now known.now) }
@@ -48,8 +49,8 @@ fn are_ranks_claimed(claims: &Claims, known: &[bool], ranks: &[u32]) -> bool
     true
 }
 
-/// Whether the claims show that the map is never above: true says that it is at most every closed map. At the vertices that are known
-/// every closed map has to have top. Each successor is looked at once for each claim.
+/// Whether the claims show that the map is never above: if true, the map is at most every closed map. Every closed map must have
+/// top at the vertices that are known. Each successor is looked at once for each claim.
 pub fn is_never_above<G: Lines>(lines: &G, map: &RankMap, claims: &Claims, known: &[bool]) -> bool
     requires within { AreWithin (length map.now.measures) (G.line lines.now) }
     requires each { length known.now ≡ length map.now.measures }
@@ -64,7 +65,8 @@ pub fn is_never_above<G: Lines>(lines: &G, map: &RankMap, claims: &Claims, known
     are_good_claims(lines, ladder, claims, known)
 }
 
-/// Whether the claims show that the map is the least progress measure: true says that it is.
+/// Whether the claims show that the map is the least progress measure: if true, it is. Every closed map must have top at the
+/// vertices that are known.
 pub fn certifies<G: Lines>(lines: &G, map: &RankMap, claims: &Claims, known: &[bool]) -> bool
     requires within { AreWithin (length map.now.measures) (G.line lines.now) }
     requires each { length known.now ≡ length map.now.measures }

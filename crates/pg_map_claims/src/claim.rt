@@ -1,4 +1,4 @@
-//! Claims, and how they are found.
+//! Claims, and the search for them.
 
 ghost use Rattle.std.specs.Prelude.{IfSome};
 ghost use Rattle.pg_map_claims.specs.Mirrors.Backing.{IsClaimFrom};
@@ -6,7 +6,8 @@ ghost use Rattle.pg_map_claims.specs.Mirrors.Backing.{IsClaimFrom};
 use pg_arena::Vertex;
 use pg_check_order::Span;
 
-/// Says that each closed map has at least the measure of this rank at the vertex. It stands at a place in the order of the claims.
+/// The claim that each closed map has at least the measure of this rank at the vertex. It stands at a place in the order of the
+/// claims.
 #[derive(Clone, Copy)]
 pub struct Claim {
     pub vertex: Vertex,
@@ -14,19 +15,20 @@ pub struct Claim {
     pub place: u32,
 }
 
-/// Claims, and the order that is to show that Odd wins the cycles of what leads from one to another.
+/// Claims, and the order meant to show that Odd wins the cycles of claims that lead to one another.
 #[derive(Drop)]
 pub struct Claims {
-    /// Those of a vertex stand together, their ranks rising.
+    /// The claims. Those of a vertex stand together, by rising rank.
     pub claims: Vec<Claim>,
-    /// The first claim of each vertex, where it has one; elsewhere any number.
+    /// The index of the first claim of each vertex that has one; any number for the others.
     pub firsts: Vec<u32>,
-    /// For each place the priority of the vertex of the claim that stands there, and before which place those stand that it leads to.
+    /// For each place, the priority of the vertex of the claim that stands there, and the place before which the claims that it
+    /// leads to stand.
     pub spans: Vec<Span>,
 }
 
-/// Where the first claim of `w` of at least a rank stands, if the claims stand as they should: who asks has to look. It is sought around a
-/// guess of how many of them stand before it.
+/// Returns where the first claim of `w` of at least a rank stands, if the claims stand as they should: the caller has to check. It
+/// is searched around a guess of how many claims of `w` stand before it.
 fn seek(claims: &[Claim], first: usize, guess: usize, w: Vertex, low: u32) -> usize {
     if first >= claims.len() || claims[first].rank >= low {
         return first;
@@ -46,7 +48,7 @@ fn seek(claims: &[Claim], first: usize, guess: usize, w: Vertex, low: u32) -> us
     first + rest.partition_point(is_less)
 }
 
-/// The place of a claim of `w` of at least a rank.
+/// Returns the place of a claim of `w` of at least a rank, if one is found.
 #[inline]
 pub(crate) fn place_from(claims: &Claims, guess: usize, low: u32, w: Vertex) -> Option<u32>
     ensures { IfSome result (IsClaimFrom claims.now low w) }

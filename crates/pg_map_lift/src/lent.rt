@@ -1,9 +1,9 @@
-//! Lines that are lent.
+//! Lines that are borrowed.
 
 use pg_arena::{Player, Vertex};
 use pg_map::Lines;
 
-/// Lines that stay where they are.
+/// Borrowed lines, which stay where they are.
 #[derive(Drop)]
 pub struct Lent<'a, G: Lines> {
     pub lines: &'a G,

@@ -1,5 +1,6 @@
-//! Lifting to the end, of the lines of a game or of a part of one. Which vertex is lifted next a queue proposes, of which nothing is
-//! promised; that none can be lifted any more is seen by a look: at all, or at those alone that lead to a vertex that rose.
+//! Lifting to the end, of the lines of a game or of a part of one. A queue proposes which vertex is lifted next, and nothing is
+//! promised of it. A look decides that no vertex can be lifted any more: at all vertices, or only at those that lead to a vertex
+//! that rose.
 #![tactic(auto)]
 
 mod lent;

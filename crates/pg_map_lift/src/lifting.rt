@@ -19,7 +19,7 @@ use pg_measure::{Bounds, Measure};
 use std::alloc::{AllocError, Global};
 use std::marker::Model;
 
-/// Lines and a map of their vertices, and a queue that proposes what to lift. Contracts see the lines and the map.
+/// Lines, a map of their vertices, and a queue that proposes what to lift. Contracts see the lines and the map.
 #[derive(Drop)]
 pub struct Lifter<G: Lines + Drop> {
     lines: G,
@@ -43,7 +43,7 @@ impl<G: Lines + Drop> Model for Lifter<G> {
         l.watch.is_on l.watch.risen.items };
 }
 
-/// Lets the lines wait; answers how many edges they have.
+/// Lets the vertices of the lines wait. Returns how many edges the lines have.
 fn begin_all<G: Lines>(queue: &mut Queue, map: &MeasureMap, lines: &G) -> usize {
     let mut edges = 0usize;
     for number in (0..map.len()).rev() {
@@ -56,7 +56,7 @@ fn begin_all<G: Lines>(queue: &mut Queue, map: &MeasureMap, lines: &G) -> usize 
     edges
 }
 
-/// Lifts the first vertex that can be lifted of those that the queue proposes.
+/// Lifts the first vertex that can be lifted among those that the queue proposes, and returns it.
 #[inline(always)]
 fn lift_proposed<G: Lines>(map: &mut MeasureMap, lines: &G, queue: &mut Queue) -> Option<Vertex>
     requires within { AreWithin (length map.old.measures) (G.line lines.now) }
@@ -75,7 +75,7 @@ fn lift_proposed<G: Lines>(map: &mut MeasureMap, lines: &G, queue: &mut Queue) -
     None
 }
 
-/// The first vertex that can be lifted of those that the queue proposes.
+/// Returns the first vertex that can be lifted among those that the queue proposes.
 fn liftable_proposed<G: Lines>(map: &MeasureMap, lines: &G, queue: &mut Queue) -> Option<Vertex>
     requires { AreWithin (length map.now.measures) (G.line lines.now) }
     ensures { IfSome result (λ v. IsSome (G.line lines.now v)
@@ -90,8 +90,8 @@ fn liftable_proposed<G: Lines>(map: &MeasureMap, lines: &G, queue: &mut Queue) -
     None
 }
 
-/// A vertex that can be lifted; none exactly if the map is closed. While the watch is on, those alone are looked at that lead to a vertex
-/// that rose.
+/// Returns a vertex that can be lifted, or `None` exactly if the map is closed. While the watch is on, it looks only at vertices
+/// that lead to a vertex that rose.
 fn liftable<G: Lines>(
     map: &MeasureMap,
     lines: &G,
@@ -112,7 +112,8 @@ fn liftable<G: Lines>(
     }
 }
 
-/// As `lift_proposed`; where nothing that is proposed can be lifted, a vertex that can. None where none can be.
+/// Lifts as `lift_proposed` does or, if nothing that is proposed can be lifted, lifts a vertex that can. Returns `None` if none can
+/// be lifted.
 #[inline(always)]
 fn lift_one<G: Lines>(
     map: &mut MeasureMap,
@@ -139,7 +140,7 @@ fn lift_one<G: Lines>(
     Some(v)
 }
 
-/// Lets those wait that a vertex, which rose, no longer serves, and keeps that it rose.
+/// Lets the vertices wait that a vertex, which rose, no longer serves, and notes that it rose.
 #[inline(always)]
 fn rise<G: Lines>(
     map: &MeasureMap,
@@ -159,7 +160,7 @@ fn rise<G: Lines>(
     queue.rise(map, lines, predecessors, v);
 }
 
-/// Begins a watch anew, where the predecessors are seen to be all there.
+/// Begins a watch anew, if all predecessors are seen to be there.
 fn begin_watch<G: Lines>(lines: &G, predecessors: &mut Predecessors, watch: &mut Watch, count: u32)
     requires within { AreWithin count (G.line lines.now) }
     requires listed { watch.old.is_on ≡ true → ListsAll predecessors.old.starts.items predecessors.old.sources.items (G.line lines.now) }
@@ -177,7 +178,7 @@ fn begin_watch<G: Lines>(lines: &G, predecessors: &mut Predecessors, watch: &mut
 }
 
 impl<G: Lines + Drop> Lifter<G> {
-    /// Lines, and a map that no call lifted yet. It is refused where memory runs out only; lifts take none.
+    /// Makes a lifter of lines and a map that no call has lifted yet. It fails only if memory runs out; lifts take no memory.
     pub fn new(alloc: Global, lines: G, map: MeasureMap) -> Result<Lifter<G>, AllocError>
         requires within { AreWithin (length map.measures) (G.line lines) }
         ensures lines { IfOk result (λ l. l.lines ≡ lines) }
@@ -197,7 +198,7 @@ impl<G: Lines + Drop> Lifter<G> {
         })
     }
 
-    /// How many vertices there are.
+    /// Returns the number of vertices.
     pub fn len(&self) -> u32
         ensures value { result ≡ length self.now.map.measures }
         ensures map { IsMap self.now.map.bounds result self.now.map.measures }
@@ -206,7 +207,7 @@ impl<G: Lines + Drop> Lifter<G> {
         self.map.len()
     }
 
-    /// The bounds of the measures.
+    /// Returns the bounds of the measures.
     #[inline(always)]
     pub fn bounds(&self) -> &Bounds
         ensures { result.now ≡ self.now.map.bounds }
@@ -221,7 +222,7 @@ impl<G: Lines + Drop> Lifter<G> {
         self.lines.holds(v)
     }
 
-    /// Sets a measure with room for the bounds to that of a vertex.
+    /// Sets `measure`, which has room for the bounds, to the measure of a vertex.
     pub fn copy_to(&self, v: Vertex, measure: &mut Measure)
         requires v { v < length self.now.map.measures }
         requires room { measure.old.width ≡ length self.now.map.bounds }
@@ -230,7 +231,7 @@ impl<G: Lines + Drop> Lifter<G> {
         self.map.copy_to(v, measure);
     }
 
-    /// Raises the measure of a vertex to at least `m`. True exactly if it rose.
+    /// Raises the measure of a vertex to at least `m`. Returns true exactly if it rose.
     #[inline(always)]
     pub fn take(&mut self, v: Vertex, m: View) -> bool
         requires v { v < length self.old.map.measures }
@@ -257,7 +258,7 @@ impl<G: Lines + Drop> Lifter<G> {
         true
     }
 
-    /// Lifts the next vertex that can be lifted. None where none can be.
+    /// Lifts the next vertex that can be lifted, and returns it. Returns `None` if none can be lifted.
     #[inline(always)]
     pub fn lift_next(&mut self) -> Option<Vertex>
         ensures lifted { IfSome result (Lifts G.line self.old self.new) }
@@ -282,7 +283,7 @@ impl<G: Lines + Drop> Lifter<G> {
         Some(v)
     }
 
-    /// Lifts a vertex that is held. False if it is served.
+    /// Lifts a vertex that is held. Returns false, and changes nothing, if it is served.
     pub fn lift(&mut self, v: Vertex) -> bool
         requires { IsSome (G.line self.old.lines v) }
         ensures lifted { OnTrue result (Lifts G.line self.old self.new v) }
@@ -322,7 +323,7 @@ impl<G: Lines + Drop> Lifter<G> {
         }
     }
 
-    /// Keeps from now on which vertices rise, where none can be lifted: looks then go over those alone that lead to these, as
+    /// Notes from now on which vertices rise. The map must be closed. Looks then go only over the vertices that lead to these, as
     /// long as there is room for them.
     pub fn watch(&mut self)
         requires { IsClosed self.old.map.bounds (G.line self.old.lines) self.old.map.measures }
@@ -338,7 +339,7 @@ impl<G: Lines + Drop> Lifter<G> {
 }
 
 impl Lifter<Part> {
-    /// Makes room for so many edges more.
+    /// Makes room for `edges` more edges. Fails only if memory runs out.
     pub fn reserve(&mut self, edges: usize) -> Result<(), AllocError>
         ensures { self.new ≡ self.old }
     {
@@ -346,7 +347,7 @@ impl Lifter<Part> {
         self.predecessors.reserve(edges)
     }
 
-    /// Adds the line of a vertex, for whose edges there is room.
+    /// Adds the line of a vertex, for whose edges there must be room.
     pub fn add(&mut self, v: Vertex, line: PartLine)
         requires size { length self.old.lines ≡ length self.old.map.measures }
         requires v { v < length self.old.lines }

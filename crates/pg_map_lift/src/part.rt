@@ -25,7 +25,7 @@ impl Model for PartLine {
 }
 
 impl PartLine {
-    /// The line of a vertex with these successors. It is refused where memory runs out only.
+    /// Makes the line of a vertex with these successors. It fails only if memory runs out.
     pub fn new(
         alloc: Global,
         priority: u32,
@@ -62,7 +62,7 @@ impl Model for Part {
 }
 
 impl Part {
-    /// No lines, of vertices below `count`.
+    /// Makes a part without lines, of vertices below `count`.
     pub fn new(alloc: Global, count: u32) -> Result<Part, AllocError>
         ensures { IfOk result (λ p. p ≡ replicate count None) }
     {

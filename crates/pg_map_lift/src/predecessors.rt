@@ -1,4 +1,4 @@
-//! Who leads to a vertex. What is gathered is only proposed: whether all are there is looked at.
+//! The vertices that lead to a vertex. What is gathered is only proposed: a look decides whether all are there.
 
 ghost use Rattle.std.specs.Prelude.{◌≡◌, slice_index_or};
 ghost use Rattle.std.specs.Bool.{OnTrue};
@@ -10,8 +10,8 @@ use pg_arena::Vertex;
 use pg_map::Lines;
 use std::alloc::{AllocError, Global};
 
-/// The vertices that lead to each vertex of some lines, once they are gathered: those of `v` stand from `starts[v]` to `starts[v + 1]`,
-/// and rise.
+/// The vertices that lead to each vertex of some lines, once they are gathered. Those that lead to `v` stand from `starts[v]` up to
+/// `starts[v + 1]`, in rising order.
 #[derive(Drop)]
 pub(crate) struct Predecessors {
     pub starts: Vec<usize>,
@@ -19,7 +19,7 @@ pub(crate) struct Predecessors {
     is_gathered: bool,
 }
 
-/// Counts an edge, or takes one away; answers how many there are then.
+/// Counts an edge at a place, or takes one away. Returns how many there are then.
 fn change(starts: &mut [usize], place: usize, by: usize) -> usize {
     match starts.get_mut(place) {
         Some(start) => {
@@ -30,7 +30,7 @@ fn change(starts: &mut [usize], place: usize, by: usize) -> usize {
     }
 }
 
-/// Whether a vertex is found among others, which rise.
+/// Whether a vertex is found among others, which are in rising order.
 fn is_listed(others: &[Vertex], v: Vertex) -> bool
     ensures { OnTrue result (Contains others.now v) }
 {
@@ -43,7 +43,7 @@ fn is_listed(others: &[Vertex], v: Vertex) -> bool
 }
 
 impl Predecessors {
-    /// None yet, of vertices below `count`.
+    /// Makes a list for vertices below `count`, with no predecessors yet.
     pub fn new(alloc: Global, count: u32) -> Result<Predecessors, AllocError> {
         Ok(Predecessors {
             starts: vec![in alloc; 0; count as usize + 1]?,
@@ -52,14 +52,14 @@ impl Predecessors {
         })
     }
 
-    /// Makes room for so many edges more, and has them gathered anew.
+    /// Makes room for `edges` more edges, and lets all be gathered anew.
     pub fn reserve(&mut self, edges: usize) -> Result<(), AllocError> {
         self.is_gathered = false;
         self.sources
             .resize(self.sources.len().saturating_add(edges), Vertex(0))
     }
 
-    /// Gathers the edges of the lines, unless they are gathered. It takes no memory.
+    /// Gathers the edges of the lines, unless they are gathered already. It takes no memory.
     pub fn gather<G: Lines>(&mut self, lines: &G) {
         if self.is_gathered {
             return;
@@ -93,7 +93,7 @@ impl Predecessors {
         }
     }
 
-    /// Where those that lead to this vertex begin.
+    /// Returns where the vertices that lead to this one begin.
     fn start(&self, v: usize) -> usize
         ensures { result ≡ slice_index_or self.now.starts.items v 0 }
     {
@@ -104,7 +104,7 @@ impl Predecessors {
         }
     }
 
-    /// Those that lead to a vertex.
+    /// Returns the vertices that lead to a vertex.
     pub fn of(&self, v: Vertex) -> &[Vertex]
         ensures { result.now ≡ sources_of self.now.starts.items self.now.sources.items v }
     {
@@ -125,7 +125,7 @@ impl Predecessors {
         true
     }
 
-    /// Whether each vertex of the lines is listed where it leads to.
+    /// Whether each vertex of the lines is listed as leading to each of its successors.
     pub fn list_all<G: Lines>(&self, lines: &G, count: u32) -> bool
         requires { AreWithin count (G.line lines.now) }
         ensures { OnTrue result (ListsAll self.now.starts.items self.now.sources.items (G.line lines.now)) }

@@ -1,4 +1,4 @@
-//! Which vertices may be lifted next: those that a vertex which rose is a successor of. Nothing is promised of it.
+//! Which vertices may be lifted next: those that lead to a vertex that rose. Nothing is promised of it.
 
 use crate::predecessors::Predecessors;
 use pg_arena::{Player, Vertex};
@@ -10,19 +10,20 @@ use std::mem;
 /// How often a vertex is lifted in a generation before it has to wait for the next one.
 const LIFTS: u32 = 16;
 
-/// What is kept of a vertex.
+/// What the queue keeps about a vertex.
 #[derive(Clone, Copy)]
 struct Note {
     waits: bool,
-    /// Where among its successors the last search for one that serves it stopped.
+    /// The position among its successors at which the last search for one that serves it stopped.
     stop: u32,
     /// The last generation in which it was lifted, and how often.
     generation: u32,
     lifts: u32,
 }
 
-/// Vertices that wait to be looked at, each once: those of this generation, of which the last comes first, and those of the next one, which
-/// were lifted often in this one. So a lift is followed by those that it leads to, and no cycle keeps the others waiting.
+/// Vertices that wait to be looked at, each once: those of this generation, of which the last comes first, and those of the next
+/// generation, which were lifted often in this one. So a lift is followed by the lifts that it leads to, and no cycle keeps the
+/// others waiting.
 #[derive(Drop)]
 pub(crate) struct Queue {
     notes: Vec<Note>,
@@ -31,7 +32,7 @@ pub(crate) struct Queue {
     generation: u32,
 }
 
-/// A stack whose room is taken when it is made.
+/// A stack whose memory is taken when it is made.
 #[derive(Drop)]
 struct Stack {
     places: Vec<u32>,
@@ -75,7 +76,7 @@ fn is_greatest(bounds: &Bounds, priority: u32) -> bool {
 }
 
 impl Queue {
-    /// No vertex waits, of those below `count`.
+    /// Makes a queue for vertices below `count`, in which none waits.
     pub fn new(alloc: Global, count: u32) -> Result<Queue, AllocError> {
         let note = Note {
             waits: false,
@@ -91,7 +92,7 @@ impl Queue {
         })
     }
 
-    /// Lets a vertex wait.
+    /// Lets a vertex wait, if it doesn't wait yet.
     pub fn add(&mut self, v: Vertex) {
         let Some(note) = self.notes.get_mut(v.0 as usize) else {
             return;
@@ -115,7 +116,7 @@ impl Queue {
         }
     }
 
-    /// Keeps a vertex that is added in this generation for the next one.
+    /// Defers a vertex that is added in this generation to the next one.
     fn defer(&mut self, v: Vertex) {
         let generation = self.generation;
         if let Some(note) = self.notes.get_mut(v.0 as usize) {
@@ -124,7 +125,8 @@ impl Queue {
         }
     }
 
-    /// Lets a new vertex wait, for the next generation unless its priority is the greatest odd one: those climb farthest, and come first.
+    /// Lets a new vertex wait: for the next generation, unless its priority is the greatest odd one. Those of that priority climb
+    /// farthest, and come first.
     pub(crate) fn begin<G: Lines>(&mut self, map: &MeasureMap, lines: &G, v: Vertex) {
         if !lines.holds(v) {
             return;
@@ -135,7 +137,7 @@ impl Queue {
         self.add(v);
     }
 
-    /// Takes the last vertex of this generation; where none is left of it, the last of the next one, which begins then.
+    /// Takes the last vertex of this generation. If none is left, the next generation begins, and its last vertex is taken.
     fn pop(&mut self) -> Option<Vertex> {
         if self.stack.count == 0 {
             mem::swap(&mut self.stack, &mut self.next);
@@ -161,7 +163,7 @@ impl Queue {
         }
     }
 
-    /// Where among the successors of a vertex the last search stopped.
+    /// Returns the position among the successors of a vertex at which the last search stopped.
     fn stop(&self, v: Vertex) -> usize {
         match self.notes.get(v.0 as usize) {
             Some(note) => note.stop as usize,
@@ -169,8 +171,8 @@ impl Queue {
         }
     }
 
-    /// Whether one of its successors is found to serve a vertex of Even. The search begins where the last one stopped: measures only
-    /// rise, so who was passed over won't serve the vertex before that rises itself.
+    /// Whether a vertex of Even is found to be served by one of its successors. The search begins where the last one stopped:
+    /// measures only rise, so a successor that was passed over won't serve the vertex before the vertex rises itself.
     fn is_served<G: Lines>(&mut self, map: &MeasureMap, lines: &G, v: Vertex) -> bool {
         if v.0 >= map.len() || !lines.holds(v) || lines.owner(v) == Player::Odd {
             return false;
@@ -193,7 +195,7 @@ impl Queue {
         false
     }
 
-    /// The next vertex that may be lifted.
+    /// Returns the next vertex that may be lifted.
     pub(crate) fn next<G: Lines>(&mut self, map: &MeasureMap, lines: &G) -> Option<Vertex> {
         for _ in 0..u64::MAX {
             let v = self.pop()?;
@@ -204,7 +206,8 @@ impl Queue {
         None
     }
 
-    /// Lets a vertex wait if its successor, which rose, no longer serves it; where Even owns it, only if none was found to serve it.
+    /// Lets a vertex wait if its successor, which rose, no longer serves it. If Even owns the vertex, it waits only if the
+    /// successor at which the last search stopped doesn't serve it either.
     fn follow<G: Lines>(&mut self, map: &MeasureMap, lines: &G, v: Vertex, risen: Vertex) {
         if self.waits(v) || !lines.holds(v) || serves(map, lines, v, risen) {
             return;
@@ -219,8 +222,8 @@ impl Queue {
         }
     }
 
-    /// Lets those wait that a vertex, which rose, no longer serves. It comes last if it leads to itself, and so first in the queue:
-    /// it is to climb before others follow it.
+    /// Lets the vertices wait that a vertex, which rose, no longer serves. If the vertex leads to itself, it is added last and so
+    /// comes first in the queue: it should climb before others follow it.
     pub(crate) fn rise<G: Lines>(
         &mut self,
         map: &MeasureMap,

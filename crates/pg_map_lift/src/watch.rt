@@ -1,4 +1,4 @@
-//! Which vertices rose since none could be lifted, and the look over those that lead to them.
+//! Which vertices rose since none could be lifted, and the look at those that lead to them.
 
 ghost use Rattle.std.specs.Prelude.{◌≡◌, ◌++◌, ◌∷◌, [], ◌↔◌, ◌<◌, true, false, length, IfOk, All, Any, IfSome, IfNone, IsSome, IsTrue};
 ghost use Rattle.pg_map.specs.Lines.{AreWithin};
@@ -10,7 +10,8 @@ use pg_arena::{Player, Vertex};
 use pg_map::{Lines, MeasureMap};
 use std::alloc::{AllocError, Global};
 
-/// The vertices that rose since none could be lifted, one for each rise, while there is room; it is off where they aren't known.
+/// The vertices that rose since none could be lifted, one entry for each rise, while there is room. The watch is off while they
+/// aren't known.
 #[derive(Drop)]
 pub(crate) struct Watch {
     pub risen: Vec<Vertex>,
@@ -18,7 +19,7 @@ pub(crate) struct Watch {
 }
 
 impl Watch {
-    /// A watch with room for so many rises, which is off. Nothing else takes memory.
+    /// Makes a watch with room for `count` rises, which is off. Only this takes memory.
     pub fn new(alloc: Global, count: u32) -> Result<Watch, AllocError>
         ensures { IfOk result (λ w. w.is_on ≡ false) }
     {
@@ -28,7 +29,8 @@ impl Watch {
         })
     }
 
-    /// Keeps that a vertex rose; where no room is left it goes off, since a look at all costs no more then than what was lifted.
+    /// Notes that a vertex rose. If no room is left, the watch goes off, since a look at all vertices then costs no more than what
+    /// was lifted.
     pub fn push(&mut self, v: Vertex)
         ensures { self.new.is_on ≡ true → (self.old.is_on ≡ true)
             × (self.new.risen.items ≡ self.old.risen.items ++ v ∷ []) }
@@ -43,7 +45,7 @@ impl Watch {
         }
     }
 
-    /// Begins anew, where no vertex can be lifted.
+    /// Begins anew, when no vertex can be lifted.
     pub fn begin(&mut self)
         ensures none { self.new.risen.items ≡ [] }
     {
@@ -94,7 +96,7 @@ pub(crate) fn is_served<G: Lines>(map: &MeasureMap, lines: &G, v: Vertex) -> boo
     }
 }
 
-/// The first of the vertices that can be lifted.
+/// Returns the first of the vertices that can be lifted.
 pub(crate) fn liftable_of<G: Lines>(
     map: &MeasureMap,
     lines: &G,
@@ -113,7 +115,7 @@ pub(crate) fn liftable_of<G: Lines>(
     None
 }
 
-/// A vertex that can be lifted, of those that lead to one of these.
+/// Returns a vertex that can be lifted among those that lead to one of the risen vertices.
 pub(crate) fn liftable_before<G: Lines>(
     map: &MeasureMap,
     lines: &G,

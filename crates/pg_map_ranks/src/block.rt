@@ -4,7 +4,7 @@ ghost use Rattle.std.specs.Prelude.{◌≡◌, ℕ, ◌+◌, ◌^◌, ◌<◌, �
 ghost use Rattle.pg_map_ranks.specs.Mirrors.Blocks.{IsBlockFrom, IsBlockTo, IsHigh, IsLow, IsPast};
 ghost use Rattle.pg_map_ranks.specs.Mirrors.Rungs.{IsBegin, IsEnd, AreBegins, AreBlocks};
 
-/// The beginning of the block that ends with a rank: the rank itself where it is a step at a priority that is no less.
+/// Returns the beginning of the block that ends with a rank: the rank itself if it is made by a step at a priority that is no less.
 pub(crate) fn block_begin(steps: &[u32], begins: &[u32], priority: u32, rank: usize) -> usize
     requires rank { rank ≤ length begins.now }
     requires within { length begins.now ≤ length steps.now }
@@ -18,7 +18,8 @@ pub(crate) fn block_begin(steps: &[u32], begins: &[u32], priority: u32, rank: us
     first
 }
 
-/// From a step on past those at priorities of at most `most`.
+/// Skips the steps from `from` on that are at priorities of at most `most`. Returns the first step after them, or the number of
+/// steps.
 pub(crate) fn skip(steps: &[u32], ends: &[u32], most: u32, from: usize) -> usize
     requires from { from ≤ length steps.now }
     requires each { length ends.now ≡ length steps.now }
@@ -32,7 +33,8 @@ pub(crate) fn skip(steps: &[u32], ends: &[u32], most: u32, from: usize) -> usize
     end
 }
 
-/// The end of the block that begins at a rank. The hint may name the greatest step of the block, whose own end it is.
+/// Returns the end of the block that begins at a rank. The hint may name the greatest step of the block, whose own end is the end
+/// of the block.
 fn block_end(
     steps: &[u32],
     begins: &[u32],
@@ -59,7 +61,7 @@ fn block_end(
     skip(steps, ends, priority - 1, from) + 1
 }
 
-/// Below which rank the row of a rank covers ranks at a priority, and no others.
+/// Returns the rank below which the row of a rank covers the ranks at a priority. It covers no others.
 pub(crate) fn high_of(
     steps: &[u32],
     begins: &[u32],
@@ -80,7 +82,8 @@ pub(crate) fn high_of(
     high as u32
 }
 
-/// From which rank on ranks justify this one at a priority; where its row has components below the priority only top does.
+/// Returns the rank from which on ranks justify this one at a priority. If its row has components below the priority, only top
+/// does.
 pub(crate) fn low_of(steps: &[u32], begins: &[u32], priority: u32, rank: u32) -> u32
     requires few { length steps.now + 2 < 2 ^ 32 }
     requires begins { AreBegins steps.now begins.now }

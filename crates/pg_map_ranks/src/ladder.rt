@@ -12,19 +12,19 @@ use pg_measure::Bounds;
 use std::alloc::{AllocError, Global};
 use std::marker::Model;
 
-/// Steps at odd priorities, from zeros on: each makes the component of its priority one greater, and those of lesser priorities 0.
-/// Contracts see the bounds and the priorities of the steps.
+/// Steps at odd priorities that begin at zeros: each makes the component of its priority one greater, and the components of lesser
+/// priorities 0. Contracts see the bounds and the priorities of the steps.
 #[derive(Drop)]
 pub struct Ladder {
     bounds: Bounds,
     steps: Vec<u32>,
-    /// For each step from which one on all those before it are at lesser priorities; the one before these isn't.
+    /// For each step, where the steps at lesser priorities right before it begin.
     begins: Vec<u32>,
-    /// The same of steps at no greater priorities.
+    /// For each step, where the steps at no greater priorities right before it begin.
     origins: Vec<u32>,
-    /// Before which one those after it are at no greater priorities.
+    /// For each step, where the steps at no greater priorities right after it end.
     ends: Vec<u32>,
-    /// The component that it makes greater, after it.
+    /// For each step, the component that it makes greater, as it is after the step.
     counts: Vec<u32>,
 }
 
@@ -40,8 +40,8 @@ impl Model for Ladder {
 }
 
 impl Ladder {
-    /// The ladder with these steps; none where one of its rows isn't within the bounds, or a step is at no priority of theirs, or there
-    /// are `2^32 - 2` steps or more.
+    /// Makes the ladder with these steps. Returns `None` if one of its rows isn't within the bounds, if a step is at none of their
+    /// priorities, or if there are `2^32 - 2` steps or more. Fails only if memory runs out.
     pub fn new(
         alloc: Global,
         bounds: &Bounds,
@@ -71,7 +71,7 @@ impl Ladder {
         }))
     }
 
-    /// The bounds of its rows.
+    /// Returns the bounds of its rows.
     pub fn bounds(&self) -> &Bounds
         ensures value { result.now ≡ self.now.bounds }
         ensures bounds { AreBounds self.now.bounds }
@@ -82,7 +82,7 @@ impl Ladder {
         &self.bounds
     }
 
-    /// Whether a rank is that of a row: the ranks past the last row are top.
+    /// Whether a rank is that of a row. The ranks past the last row are top.
     #[inline(always)]
     pub(crate) fn is_row(&self, rank: u32) -> bool
         ensures { IsTrue result ↔ (rank ≤ length self.now.steps) }
@@ -90,7 +90,7 @@ impl Ladder {
         rank as usize <= self.steps.len()
     }
 
-    /// A rank from which on all justify this one at a priority.
+    /// Returns a rank from which on all ranks justify this one at a priority.
     #[inline]
     pub fn low_of(&self, priority: u32, rank: u32) -> u32
         ensures { IsJustifiedFrom self.now.bounds self.now.steps priority rank result }
@@ -98,8 +98,8 @@ impl Ladder {
         low_of(&self.steps, &self.begins, priority, rank)
     }
 
-    /// Below which rank the measure of this one covers those of others at a priority; none at top, which covers all. The hint may name
-    /// the greatest step of the block that begins at the rank.
+    /// Returns the rank below which the measure of this one covers the measures of others at a priority, or `None` at top, which
+    /// covers all. The hint may name the greatest step of the block that begins at the rank.
     #[inline]
     pub(crate) fn high_of(&self, priority: u32, rank: u32, hint: u32) -> Option<u32>
         ensures { CoversUnder self.now.bounds self.now.steps priority rank result }
@@ -110,7 +110,7 @@ impl Ladder {
         Some(high_of(&self.steps, &self.begins, &self.ends, priority, rank, hint))
     }
 
-    /// Writes the row of a rank.
+    /// Writes the row of a rank into `list`.
     pub(crate) fn write_row(&self, rank: u32, list: &mut [u32])
         requires rank { rank ≤ length self.now.steps }
         requires size { length list.old ≡ length self.now.bounds }

@@ -13,7 +13,7 @@ use pg_map::{Lines, Measures, View};
 use pg_measure::Bounds;
 use std::marker::Model;
 
-/// A map that has a rank for each vertex: the number of a row of its ladder, or any number past the last one for top. Contracts see the
+/// A map with a rank for each vertex: the number of a row of its ladder, or any number past the last one for top. Contracts see the
 /// map of the measures.
 #[derive(Drop)]
 pub struct RankMap {
@@ -35,8 +35,8 @@ impl Model for RankMap {
 }
 
 impl RankMap {
-    /// The map of these ranks. The hints may name for a vertex of even priority the greatest step of the block that begins at its row;
-    /// where they do the blocks are found at once, and else step by step.
+    /// Makes the map of these ranks. For a vertex of even priority, the hints may name the greatest step of the block that begins
+    /// at its row; then the block is found at once, and otherwise step by step.
     pub fn new(ladder: Ladder, ranks: Vec<u32>, hints: Vec<u32>) -> RankMap
         requires { length ranks.items < 2 ^ 32 }
         ensures bounds { result.bounds ≡ ladder.bounds }
@@ -49,7 +49,7 @@ impl RankMap {
         }
     }
 
-    /// The ladder and the ranks.
+    /// Returns the ladder and the ranks.
     #[inline]
     pub fn parts(&self) -> (&Ladder, &[u32])
         ensures bounds { result.0.now.bounds ≡ self.now.bounds }
@@ -103,7 +103,7 @@ impl Measures for RankMap {
         !self.ladder.is_row(self.ranks[v.0 as usize])
     }
 
-    /// The measure is written into the room.
+    /// Writes the measure into the room.
     fn row<'a>(&'a self, v: Vertex, room: &'a mut [u32]) -> View<'a> {
         let rank = self.ranks[v.0 as usize];
         if !self.ladder.is_row(rank) {
@@ -126,7 +126,7 @@ impl Measures for RankMap {
     }
 }
 
-/// Below which rank vertices have measures that the one of `v` covers at a priority; none where it covers all.
+/// Returns the rank below which vertices have measures that the measure of `v` covers at a priority, or `None` if it covers all.
 #[inline]
 fn high_at(ladder: &Ladder, ranks: &[u32], hints: &[u32], priority: u32, v: Vertex) -> Option<u32>
     requires { v < length ranks.now }

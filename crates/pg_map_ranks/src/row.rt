@@ -6,8 +6,8 @@ ghost use Rattle.pg_map_ranks.specs.Mirrors.Rungs.{AreOrigins, AreCounts};
 
 use pg_measure::Bounds;
 
-/// Writes the row of a rank, from its last step back: the last step at a priority with no greater one after it has made its
-/// component. Each component above 0 is looked at once.
+/// Writes the row of a rank, from its last step back: a component was made by the last step at its priority that no step at a
+/// greater priority follows. Each component above 0 is looked at once.
 pub(crate) fn write_row(
     bounds: &Bounds,
     steps: &[u32],

@@ -8,7 +8,7 @@ use crate::block::{block_begin, skip};
 use pg_measure::Bounds;
 use std::alloc::{AllocError, Global};
 
-/// From which step on all those before a step are at lesser priorities, for each step.
+/// Returns, for each step, where the steps at lesser priorities right before it begin.
 pub(crate) fn begins_of(alloc: Global, steps: &[u32]) -> Result<Vec<u32>, AllocError>
     requires { length steps.now + 2 < 2 ^ 32 }
     ensures { IfOk result (λ begins. AreBegins steps.now begins.items) }
@@ -21,7 +21,7 @@ pub(crate) fn begins_of(alloc: Global, steps: &[u32]) -> Result<Vec<u32>, AllocE
     Ok(begins)
 }
 
-/// From which step on all those before a step are at no greater priorities, for each step.
+/// Returns, for each step, where the steps at no greater priorities right before it begin.
 pub(crate) fn origins_of(
     alloc: Global,
     steps: &[u32],
@@ -43,7 +43,7 @@ pub(crate) fn origins_of(
     Ok(origins)
 }
 
-/// Before which step those after a step are at no greater priorities, for each step.
+/// Returns, for each step, where the steps at no greater priorities right after it end.
 pub(crate) fn ends_of(alloc: Global, steps: &[u32]) -> Result<Vec<u32>, AllocError>
     requires { length steps.now + 2 < 2 ^ 32 }
     ensures { IfOk result (λ ends. AreEnds steps.now ends.items) }
@@ -58,7 +58,7 @@ pub(crate) fn ends_of(alloc: Global, steps: &[u32]) -> Result<Vec<u32>, AllocErr
     Ok(ends)
 }
 
-/// The bound of a priority; 0 where it has none.
+/// Returns the bound of a priority, or 0 if it has none.
 fn bound_of(bounds: &Bounds, priority: u32) -> u32
     ensures { (n : ℕ) → 0 < n → (n ≤ result) ↔ IsBounded bounds.now priority n }
 {
@@ -70,7 +70,7 @@ fn bound_of(bounds: &Bounds, priority: u32) -> u32
     if bound.0 == priority { bound.1 } else { 0 }
 }
 
-/// The component that a step makes greater, after it, where it is within the bound.
+/// Returns the component that a step makes greater, as it is after the step, if it is within the bound.
 fn count_of(bounds: &Bounds, steps: &[u32], begins: &[u32], counts: &[u32], k: usize) -> Option<u32>
     requires k { k < length steps.now }
     requires begins { AreBegins steps.now begins.now }
@@ -93,7 +93,8 @@ fn count_of(bounds: &Bounds, steps: &[u32], begins: &[u32], counts: &[u32], k: u
     }
 }
 
-/// The component that each step makes greater, after it; none exactly if the steps are no ladder of the bounds.
+/// Returns the component that each step makes greater, as it is after the step. Returns `None` exactly if the steps are no ladder
+/// of the bounds.
 pub(crate) fn counts_of(
     alloc: Global,
     bounds: &Bounds,

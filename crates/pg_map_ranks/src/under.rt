@@ -8,7 +8,7 @@ ghost use Rattle.pg_map_ranks.specs.Mirrors.Blocks.{rank_at, IsUnder, IsFirstUnd
 use pg_arena::{Player, Vertex};
 use pg_map::Lines;
 
-/// Whether a rank is below the limit, where there is one.
+/// Whether a rank is below the limit, if there is one.
 #[inline(always)]
 pub(crate) fn is_under(high: Option<u32>, rank: u32) -> bool
     ensures { IsTrue result ↔ IsUnder high rank }
@@ -19,7 +19,7 @@ pub(crate) fn is_under(high: Option<u32>, rank: u32) -> bool
     }
 }
 
-/// Whether one of the vertices has such a rank.
+/// Whether one of the vertices has a rank below the limit.
 fn one_under(ranks: &[u32], vertices: &[Vertex], high: Option<u32>) -> bool
     requires { All (λ w. w < length ranks.now) vertices.now }
     ensures { IsTrue result ↔ Any (λ w. IsUnder high (rank_at ranks.now w)) vertices.now }
@@ -32,7 +32,7 @@ fn one_under(ranks: &[u32], vertices: &[Vertex], high: Option<u32>) -> bool
     false
 }
 
-/// Whether all have.
+/// Whether all of the vertices have ranks below the limit.
 fn all_under(ranks: &[u32], vertices: &[Vertex], high: Option<u32>) -> bool
     requires { All (λ w. w < length ranks.now) vertices.now }
     ensures { IsTrue result ↔ All (λ w. IsUnder high (rank_at ranks.now w)) vertices.now }
@@ -45,7 +45,7 @@ fn all_under(ranks: &[u32], vertices: &[Vertex], high: Option<u32>) -> bool
     true
 }
 
-/// The first of the vertices that has such a rank.
+/// Returns the first of the vertices that has a rank below the limit.
 pub(crate) fn first_under(ranks: &[u32], vertices: &[Vertex], high: Option<u32>) -> Option<Vertex>
     requires { All (λ w. w < length ranks.now) vertices.now }
     ensures first { IfSome result (IsFirstUnder ranks.now vertices.now high) }
@@ -59,7 +59,7 @@ pub(crate) fn first_under(ranks: &[u32], vertices: &[Vertex], high: Option<u32>)
     None
 }
 
-/// Whether some successor of Even's vertex, or all of Odd's, have such ranks.
+/// Whether some successor of a vertex of Even, or all successors of a vertex of Odd, have ranks below the limit.
 pub(crate) fn has_under<G: Lines>(lines: &G, ranks: &[u32], v: Vertex, high: Option<u32>) -> bool
     requires within { AreWithin (length ranks.now) (G.line lines.now) }
     requires held { IsSome (G.line lines.now v) }

@@ -1,11 +1,11 @@
--- An automaton as one over so many propositions, of which its own are the first, in which each letter leads on from each state: where no
--- edge matches a letter a run goes to a state more, and stays there; and the sets that are met on the way have a priority.
+-- An automaton as one over a given number of propositions, the first of which are its own, in which every letter leads on from every
+-- state. Where no edge matches a letter, a run goes to an extra state and stays there. The sets met on the way determine a priority.
 use Rattle.std.specs.Prelude.{◌≡◌, ℕ, ◌%◌, ◌^◌, ◌<◌, Option, Some, None}
 use Rattle.pg_hoa_automaton.specs.Automata.{Step, Automaton, letters, next}
 use Rattle.pg_synth.specs.AutomatonGames.{place_priority, arrival_of}
 use Rattle.pg_means_look.specs.Automata as complete
 
--- where a run is that has ended is the state behind the last
+-- a run that has ended is at the extra state after the last one
 abbrev pub state_code : Automaton → Option ℕ → ℕ
 state_code a None = a.states
 state_code a (Some state) = state
@@ -14,7 +14,7 @@ abbrev pub target_code : Automaton → Option Step → ℕ
 target_code a None = a.states
 target_code a (Some step) = step.target
 
--- the priority of the arrival to which the step leads in the automaton's game; 1 if there is none
+-- the priority of the arrival to which the step leads in the automaton's game, or 1 if there is no step
 abbrev pub step_priority : Automaton → Option Step → ℕ
 step_priority a step = place_priority a.shape a.sets (arrival_of a.shape step)
 

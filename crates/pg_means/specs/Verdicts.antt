@@ -1,4 +1,4 @@
--- What is found of an automaton and a formula.
+-- The verdict on an automaton and a formula.
 use Rattle.std.specs.Prelude.{◌≡◌, ◌↔◌, ℕ, ◌%◌, ◌^◌, ◌<◌, ◌==◌, Bool, true, false, List, length, slice_index_or, nat_lt, if◌then◌else◌}
 use Rattle.std.specs.Int.{bit_at}
 use Rattle.pg_hoa_automaton.specs.Automata.{Automaton, letters}
@@ -9,27 +9,27 @@ use Rattle.pg_means_look.specs.Lassos.{lasso}
 use Rattle.pg_means.specs.declared.verdict.Verdict.{Verdict}
 use Rattle.pg_means.specs.declared.verdict.Verdict.TheVariants.{Same, Differs}
 
--- a word over so many propositions: bit p of each letter says whether the proposition p holds
+-- a word over the given number of propositions: bit p of each letter says whether the proposition p holds
 abbrev pub IsWordOver : ℕ → (ℕ → ℕ) → Type 0
 IsWordOver propositions word = (t : ℕ) → word t < 2 ^ propositions
 
--- what the automaton, whose propositions are the first ones, sees of a word over more of them: the same letters without the others
+-- what the automaton, whose propositions come first, sees of a word over more propositions: the same letters without the others
 abbrev pub own_word : Automaton → (ℕ → ℕ) → ℕ → ℕ
 own_word a word t = word t % letters a
 
--- whether the formula's proposition p holds at a letter: places has for each which one of all propositions it is
+-- whether the formula's proposition p holds at a letter; `places` has for each of them its place among all propositions
 abbrev pub holds_at : List ℕ → ℕ → ℕ → Bool
 holds_at places letter p = if nat_lt p (length places) then bit_at letter (slice_index_or places p 0) == 1 else false
 
 abbrev pub IsSatisfied : List ℕ → Formula → (ℕ → ℕ) → Type 0
 IsSatisfied places f word = Satisfies (λ t. holds_at places (word t)) f 0
 
--- exactly the words over so many propositions that satisfy the formula are accepted
+-- of the words over the given number of propositions, exactly those that satisfy the formula are accepted
 abbrev pub AreSame : Automaton → conditions.Formula → ℕ → List ℕ → Formula → Type 0
 AreSame a condition propositions places f =
     (word : ℕ → ℕ) → IsWordOver propositions word → IsAccepted a condition (own_word a word) ↔ IsSatisfied places f word
 
--- on the lasso they differ: the automaton accepts it and it doesn't satisfy the formula, or the other way round
+-- they differ on the lasso: the automaton accepts it and it doesn't satisfy the formula, or the other way round
 pub record AreApart (a : Automaton) (condition : conditions.Formula) (propositions : ℕ) (places : List ℕ) (f : Formula) (accepted : Bool)
     (list : List ℕ) (back : ℕ) : Type 0 where
   pub comes_round : back < length list

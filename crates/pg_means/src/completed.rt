@@ -1,4 +1,4 @@
-//! The automaton as one in which each letter leads on from each state.
+//! Turns an automaton into one in which every letter leads on from every state.
 
 ghost use Rattle.std.specs.Prelude.{◌≡◌, ◌==◌, ◌<◌, ◌≤◌, ◌^◌, ℕ, ◌+◌, ◌*◌, false, All, IfOk, length, slice_index_or};
 ghost use Rattle.std.specs.Int.{bit_at};
@@ -15,7 +15,8 @@ use pg_means_look::{Edge, ParityAutomaton};
 use pg_synth::priority_of;
 use std::alloc::{AllocError, Global};
 
-/// Where the letter leads from a state, or from behind the last one.
+/// Returns the edge of a state at a letter. Where the automaton has none, and from the extra state after the last one, it leads to the
+/// extra state with priority 1.
 fn edge_of(automaton: &Automaton, state: u32, letter: u32) -> Edge
     requires { letter < letters automaton.now }
     ensures { IsEdgeOf automaton.now (step_of automaton.now state letter) result }
@@ -37,8 +38,8 @@ fn edge_of(automaton: &Automaton, state: u32, letter: u32) -> Edge
     }
 }
 
-/// The edges of all states, and of the one behind the last, at so many letters. An edge at a letter is that at the automaton's own
-/// part of it.
+/// Returns the edges of all states and of the extra state after the last one, at `width` letters each. The edge at a letter is the one at
+/// the part of the letter that has the automaton's own propositions.
 fn edges_of(alloc: Global, automaton: &Automaton, width: u32) -> Result<Vec<Edge>, AllocError>
     requires some { 0 < width }
     requires few { (automaton.now.states + 1) * width < 2 ^ 32 }
@@ -54,7 +55,7 @@ fn edges_of(alloc: Global, automaton: &Automaton, width: u32) -> Result<Vec<Edge
     Ok(edges)
 }
 
-/// Whether a proposition holds at each letter.
+/// Returns for each of `width` letters whether the proposition, which is a bit of the letter, holds there.
 fn truths_of(alloc: Global, width: u32, proposition: u32) -> Result<Vec<bool>, AllocError>
     requires { proposition < 32 }
     ensures long { IfOk result (λ row. length row.items ≡ width) }
@@ -68,7 +69,7 @@ fn truths_of(alloc: Global, width: u32, proposition: u32) -> Result<Vec<bool>, A
     Ok(row)
 }
 
-/// How many letters there are over so many propositions.
+/// Returns the number of letters over the given number of propositions.
 fn width_of(propositions: u32) -> u32
     requires { propositions ≤ 16 }
     ensures value { result ≡ 2 ^ propositions }
@@ -78,21 +79,22 @@ fn width_of(propositions: u32) -> u32
     1 << propositions
 }
 
-/// How many letters the automaton has.
+/// Returns the number of letters of the automaton.
 fn letters_of(automaton: &Automaton) -> u32
     ensures value { result ≡ letters automaton.now }
     ensures some { 0 < result }
 {
-    // asked for what its contract says of the automaton
+    // called for what its contract says of the automaton
     let _states = automaton.states();
     1 << automaton.propositions()
 }
 
-/// How many states times letters there are at most.
+/// The most states times letters.
 const MOST_STEPS: u64 = 16_777_216;
 
-/// The automaton over so many propositions, of which its own are the first, in which each letter leads on. `places` has for each
-/// proposition of a formula which one of them it is.
+/// Returns the automaton over the given number of propositions, the first of which are its own, with an edge from every state at every
+/// letter. `places` has for each proposition of a formula its place among all propositions. Fails with `TooLarge` if the states times
+/// letters exceed `MOST_STEPS`.
 pub(crate) fn completed(
     alloc: Global,
     automaton: &Automaton,

@@ -7,14 +7,14 @@ use thiserror::Error;
 /// Why there is no verdict.
 #[derive(Clone, Copy, Debug, PartialEq, Eq, Error)]
 pub enum MeansFault {
-    /// A growth was refused.
+    /// An allocation failed.
     #[error("out of memory")]
     OutOfMemory,
-    /// The automaton over all propositions, or its product with the formula, has more than 16,777,216 edges, or the formula's parts
-    /// times letters are more than 4,194,304.
+    /// The automaton over all propositions, or its product with the formula, has more than 16,777,216 edges, the product has more than
+    /// 16,777,216 sets of formulas times letters, or the formula has more than 4,194,304 parts times letters.
     #[error("product of automaton and formula too large")]
     TooLarge,
-    /// What was found shows neither. No input is known for which this happens.
+    /// What was found proves neither verdict. No input is known for which this happens.
     #[error("undecided")]
     Undecided,
 }

@@ -1,4 +1,4 @@
-//! Normal forms without parts that say what others say already.
+//! Normal forms without parts that repeat what others say.
 
 ghost use Rattle.std.specs.Prelude.{◌≡◌, ◌<◌, ◌≤◌, true, List, length, IfOk, IfSome};
 ghost use Rattle.pg_ltl.specs.NormalForms.{NormalForm as Form, top, bottom, both, either, until, release, normal};
@@ -18,7 +18,7 @@ struct Operand {
     operand: usize,
 }
 
-/// What a part is looked up by: its operator and its operands.
+/// The key of a part: its operator and its operands.
 type Key = (u8, usize, usize);
 
 fn key_of(node: NormalNode) -> Key {
@@ -34,7 +34,7 @@ fn key_of(node: NormalNode) -> Key {
     }
 }
 
-/// The place of the part, if it is known.
+/// Returns the place of the part, if it is known.
 fn known_place(
     nodes: &[NormalNode],
     known: &BTreeMap<Key, usize>,
@@ -47,7 +47,7 @@ fn known_place(
     (there == node).then_some(place)
 }
 
-/// The place of a part, which is put behind the others if it isn't known. Nothing is believed of the known places.
+/// Returns the place of a part, appending the part if it isn't known. The entries of `known` are checked before use.
 fn put(
     nodes: &mut Vec<NormalNode>,
     known: &mut BTreeMap<Key, usize>,
@@ -66,7 +66,7 @@ fn put(
     Ok(place)
 }
 
-/// The operands of `F f`.
+/// Returns the operands of the part at `place` if it is `F f`.
 fn eventual(nodes: &[NormalNode], place: usize) -> Option<Operand>
     requires ordered { AreNormalNodes nodes.now }
     requires below { place < length nodes.now }
@@ -80,7 +80,7 @@ fn eventual(nodes: &[NormalNode], place: usize) -> Option<Operand>
     None
 }
 
-/// The operands of `G f`.
+/// Returns the operands of the part at `place` if it is `G f`.
 fn invariant(nodes: &[NormalNode], place: usize) -> Option<Operand>
     requires ordered { AreNormalNodes nodes.now }
     requires below { place < length nodes.now }
@@ -94,7 +94,7 @@ fn invariant(nodes: &[NormalNode], place: usize) -> Option<Operand>
     None
 }
 
-/// The operands of `G F f`, the outer one's first.
+/// Returns the operands of the part at `place` if it is `G F f`, those of the outer operator first.
 fn recurrent(nodes: &[NormalNode], place: usize) -> Option<(Operand, Operand)>
     requires ordered { AreNormalNodes nodes.now }
     requires below { place < length nodes.now }
@@ -105,7 +105,7 @@ fn recurrent(nodes: &[NormalNode], place: usize) -> Option<(Operand, Operand)>
     Some((outer, inner))
 }
 
-/// The operands of `F G f`, the outer one's first.
+/// Returns the operands of the part at `place` if it is `F G f`, those of the outer operator first.
 fn persistent(nodes: &[NormalNode], place: usize) -> Option<(Operand, Operand)>
     requires ordered { AreNormalNodes nodes.now }
     requires below { place < length nodes.now }
@@ -116,7 +116,7 @@ fn persistent(nodes: &[NormalNode], place: usize) -> Option<(Operand, Operand)>
     Some((outer, inner))
 }
 
-/// Whether the part is seen to hold where it holds in the end: it is `F f` or `G F f`.
+/// Whether the part's form shows that it holds wherever it holds at some step from there on: it is `F f` or `G F f`.
 fn holds_if_ever(nodes: &[NormalNode], place: usize) -> bool
     requires ordered { AreNormalNodes nodes.now }
     requires below { place < length nodes.now }
@@ -131,7 +131,7 @@ fn holds_if_ever(nodes: &[NormalNode], place: usize) -> bool
     false
 }
 
-/// Whether the part is seen to hold always where it holds: it is `G f` or `F G f`.
+/// Whether the part's form shows that it holds for ever once it holds: it is `G f` or `F G f`.
 fn holds_on(nodes: &[NormalNode], place: usize) -> bool
     requires ordered { AreNormalNodes nodes.now }
     requires below { place < length nodes.now }
@@ -146,7 +146,7 @@ fn holds_on(nodes: &[NormalNode], place: usize) -> bool
     false
 }
 
-/// `F G f & F G g`, as `F G (f & g)`.
+/// Appends `F G f & F G g`, as `F G (f & g)`.
 fn both_persistent(
     nodes: &mut Vec<NormalNode>,
     known: &mut BTreeMap<Key, usize>,
@@ -167,7 +167,7 @@ fn both_persistent(
     Ok(place)
 }
 
-/// `G F f | G F g`, as `G F (f | g)`.
+/// Appends `G F f | G F g`, as `G F (f | g)`.
 fn either_recurrent(
     nodes: &mut Vec<NormalNode>,
     known: &mut BTreeMap<Key, usize>,
@@ -188,7 +188,7 @@ fn either_recurrent(
     Ok(place)
 }
 
-/// `f & g`.
+/// Returns the place of a part that says the same as `f & g`, appending parts as needed.
 fn conjunction(
     nodes: &mut Vec<NormalNode>,
     known: &mut BTreeMap<Key, usize>,
@@ -214,7 +214,7 @@ fn conjunction(
     Ok(place)
 }
 
-/// `f | g`.
+/// Returns the place of a part that says the same as `f | g`, appending parts as needed.
 fn disjunction(
     nodes: &mut Vec<NormalNode>,
     known: &mut BTreeMap<Key, usize>,
@@ -240,7 +240,7 @@ fn disjunction(
     Ok(place)
 }
 
-/// `f U g`.
+/// Returns the place of a part that says the same as `f U g`, appending parts as needed.
 fn at_last(
     nodes: &mut Vec<NormalNode>,
     known: &mut BTreeMap<Key, usize>,
@@ -262,7 +262,7 @@ fn at_last(
     Ok(place)
 }
 
-/// `f R g`.
+/// Returns the place of a part that says the same as `f R g`, appending parts as needed.
 fn as_long(
     nodes: &mut Vec<NormalNode>,
     known: &mut BTreeMap<Key, usize>,
@@ -284,7 +284,7 @@ fn as_long(
     Ok(place)
 }
 
-/// A part without operands, or `X f`.
+/// Returns the place of a part without operands, or of `X f`, appending it as needed.
 fn plain(
     nodes: &mut Vec<NormalNode>,
     known: &mut BTreeMap<Key, usize>,
@@ -298,7 +298,7 @@ fn plain(
     Ok(place)
 }
 
-/// A part whose operands have these places.
+/// Returns the place of a part that says the same as `node`, whose operands are looked up in `places`, appending parts as needed.
 fn added(
     nodes: &mut Vec<NormalNode>,
     known: &mut BTreeMap<Key, usize>,
@@ -332,7 +332,7 @@ fn added(
     }
 }
 
-/// A normal form that holds of the same words, in which equal parts are one.
+/// Returns a normal form that holds on the same words and in which equal parts are one.
 fn simplified(alloc: Global, entry: &NormalForm) -> Result<NormalForm, AllocError>
     ensures { IfOk result (λ found. SayTheSame (form found) (form entry.now)) }
 {
@@ -347,7 +347,7 @@ fn simplified(alloc: Global, entry: &NormalForm) -> Result<NormalForm, AllocErro
     Ok(NormalForm { nodes, root })
 }
 
-/// The formula in negation normal form, or its negation, made simpler.
+/// Returns a simplified negation normal form of the formula if `positive`, or of its negation if not.
 pub(crate) fn simple_form(
     alloc: Global,
     formula: &Formula,

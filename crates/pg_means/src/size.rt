@@ -1,4 +1,4 @@
-//! How large the products are that a verdict rests on.
+//! The sizes of the products on which a verdict rests.
 
 ghost use Rattle.std.specs.Prelude.{◌<◌, ◌≤◌, All};
 
@@ -11,16 +11,16 @@ use pg_means_look::ParityAutomaton;
 use pg_means_search::{ProductSize, size_of};
 use std::alloc::Global;
 
-/// How large both products are.
+/// The sizes of both products.
 #[derive(Clone, Copy, Debug)]
 pub struct ProductSizes {
-    /// That of the automaton and the tableau of the formula's negation.
+    /// The size of the product of the automaton and the tableau of the formula's negation.
     pub negation: ProductSize,
-    /// That of the automaton's complement and the tableau of the formula.
+    /// The size of the product of the automaton's complement and the tableau of the formula.
     pub formula: ProductSize,
 }
 
-/// How large the product with the tableau of a formula is, in which a greatest priority of this parity is looked for.
+/// Returns the size of the product with the tableau of a formula, in which a greatest priority of this parity is searched for.
 fn size_with(
     alloc: Global,
     automaton: &ParityAutomaton,
@@ -30,8 +30,8 @@ fn size_with(
     Ok(size_of(alloc, automaton, &formula.nodes, formula.root, parity)?)
 }
 
-/// How large the products are of an automaton and a formula, which are as for `means`. Nothing is promised of them: they tell how much
-/// work the verdict `Same` takes.
+/// Returns the sizes of the products of an automaton and a formula, with the same arguments as `means`. They show how much work the
+/// verdict `Same` takes, but nothing is promised of them. Fails with `TooLarge` or `OutOfMemory` as `means` does.
 pub fn sizes(
     alloc: Global,
     automaton: &Automaton,

@@ -1,4 +1,4 @@
-//! What is found of an automaton and a formula.
+//! The verdict on an automaton and a formula.
 
 ghost use Rattle.std.specs.Prelude.{◌≡◌, ◌<◌, ◌≤◌, All, IfOk, MatchOption};
 ghost use Rattle.pg_hoa_automaton.specs.Formulas as conditions;
@@ -18,17 +18,18 @@ use pg_means_look::{ParityAutomaton, is_shown, shows_empty};
 use pg_means_search::{Lasso, Proposed, propose};
 use std::alloc::Global;
 
-/// Whether an automaton and a formula say the same of each word.
+/// Whether an automaton and a formula agree on every word.
 #[derive(Debug, Drop)]
 pub enum Verdict {
     /// The automaton accepts exactly the words that satisfy the formula.
     Same,
-    /// They differ on the word of these letters, those from the place at the end on again and again: if the flag is set the automaton
-    /// accepts it and it doesn't satisfy the formula, and otherwise it satisfies the formula and isn't accepted.
+    /// They differ on the lasso of these letters, which repeats those from the place at the end on for ever. If the flag is set, the
+    /// automaton accepts the word and it doesn't satisfy the formula; otherwise it satisfies the formula and the automaton rejects it.
     Differs(bool, Vec<u32>, usize),
 }
 
-/// A word of the formula that the automaton accepts, for the parity 0, or rejects, for 1; or none if there is no such word.
+/// Returns a word that satisfies the formula and that the automaton accepts, for the parity 0, or rejects, for the parity 1; or `None` if
+/// there is no such word.
 fn word_of(
     alloc: Global,
     automaton: &ParityAutomaton,
@@ -73,8 +74,12 @@ fn word_of(
     Err(MeansFault::Undecided)
 }
 
-/// Whether the automaton accepts exactly the words over so many propositions, of which its own are the first, that satisfy the formula.
-/// `places` has for each proposition of the formula which one of all it is; one that isn't there never holds.
+/// Decides whether the automaton accepts exactly the words that satisfy the formula, over the given number of propositions, at most 16,
+/// the first of which are the automaton's own. `places` has for each proposition of the formula its place among all propositions; a
+/// proposition of the formula without an entry never holds.
+///
+/// Fails with `OutOfMemory` if an allocation fails, with `TooLarge` if a limit is exceeded, and with `Undecided` if no verdict could be
+/// proved.
 pub fn means(
     alloc: Global,
     automaton: &Automaton,
@@ -87,7 +92,7 @@ pub fn means(
     ensures { IfOk result (λ verdict. (condition : conditions.Formula) → FitsShape condition automaton.now.sets automaton.now.shape
         → Says automaton.now condition propositions places.now (written formula.now) verdict) }
 {
-    // asked for what its contract says of the automaton
+    // called for what its contract says of the automaton
     let _states = automaton.states();
     let complete = completed(alloc, automaton, propositions, places)?;
     let no = simple_form(alloc, formula, false)?;

@@ -1,4 +1,4 @@
--- Deterministic parity automata in which each letter leads on from each state, and which endless words they accept.
+-- Deterministic parity automata in which every letter leads on from every state, and the endless words that they accept.
 use Rattle.std.specs.Prelude.{◌≡◌, ◌≢◌, ℕ, zero, suc, ◌%◌, ◌<◌, ◌≤◌, Bool}
 
 -- letters are numbers, and `on l p` says whether the proposition p holds at the letter l
@@ -8,7 +8,7 @@ pub record Automaton : Type 0 where
   pub start : ℕ
   pub target : ℕ → ℕ → ℕ
   pub priority : ℕ → ℕ → ℕ
-  -- no priority is so great
+  -- every priority is below this
   pub bound : ℕ
 
 abbrev pub IsBounded : Automaton → Type 0
@@ -27,7 +27,7 @@ met a word t = a.priority (state_at a word t) (word t)
 abbrev pub IsAbsentFrom : (ℕ → ℕ) → ℕ → ℕ → Type 0
 IsAbsentFrom priorities p t = (s : ℕ) → t ≤ s → priorities s ≢ p
 
--- there is no step from which on p isn't met, and from some step on nothing greater is
+-- there is no step from which on p is never met, and from some step on nothing greater is met
 pub record IsGreatestRecurring (priorities : ℕ → ℕ) (p : ℕ) : Type 0 where
   pub recurs : ¬ ((t : ℕ) × IsAbsentFrom priorities p t)
   pub bounds : (t : ℕ) × ((s : ℕ) → t ≤ s → priorities s ≤ p)

@@ -17,7 +17,7 @@ Sameness =
     (a : Automaton) (f : NormalForm) (first second : Certificate) (word : ℕ → ℕ) → IsBounded a → IsEmptyBy a (dual f) 0 first
     → IsEmptyBy a f 1 second → IsWord a word → IsAccepted a word ↔ Holds (λ t. a.on (word t)) f 0
 
--- the automaton accepts exactly the words that satisfy the formula as it is written
+-- the automaton accepts exactly the words that satisfy the formula as written
 abbrev pub Meaning : Type 0
 Meaning =
     (a : Automaton) (f : Formula) (first second : Certificate) (word : ℕ → ℕ) → IsBounded a

@@ -1,31 +1,31 @@
-//! Deterministic parity automata as tables.
+//! Deterministic parity automata, as tables.
 
 ghost use Rattle.std.specs.Prelude.{◌≡◌, ◌+◌, ◌*◌};
 ghost use Rattle.pg_means_look.specs.Mirrors.Tables.{edge_at, truth_at};
 
-/// Where a letter leads from a state, and the priority that is met on the way.
+/// Where a letter leads from a state, and the priority met on the way.
 #[derive(Clone, Copy, Debug, PartialEq, Eq)]
 pub struct Edge {
     pub target: u32,
     pub priority: u32,
 }
 
-/// A deterministic parity automaton in which each letter leads on from each state. It accepts a word if the greatest priority that recurs
-/// is even. Past the ends of its lists edges lead to state 0 with priority 0, and no proposition holds.
+/// A deterministic parity automaton in which every letter leads on from every state. It accepts a word if the greatest priority that
+/// recurs is even. Past the ends of its lists, edges lead to state 0 with priority 0, and no proposition holds.
 #[derive(Debug, Drop)]
 pub struct ParityAutomaton {
-    /// How many letters there are: 0, 1, .. below that.
+    /// The number of letters, which are 0, 1, .. up to `letters - 1`.
     pub letters: u32,
     /// The state where a run starts.
     pub start: u32,
-    /// The edge of a state and a letter stands at `state * letters + letter`.
+    /// The edges: the edge of a state and a letter is at `state * letters + letter`.
     pub edges: Vec<Edge>,
     /// For each proposition, whether it holds at each letter.
     pub truths: Vec<Vec<bool>>,
 }
 
 impl ParityAutomaton {
-    /// Where the letter leads from the state.
+    /// Returns the edge of the state at the letter; past the end of `edges`, one to state 0 with priority 0.
     pub fn edge(&self, state: u32, letter: u32) -> Edge
         ensures { result ≡ edge_at self.now.edges.items (state * self.now.letters + letter) }
     {

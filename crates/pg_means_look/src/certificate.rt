@@ -1,4 +1,4 @@
-//! Certificates: what is proposed to show that no word is one of a formula and at the same time accepted by an automaton, or rejected.
+//! Certificates: proposed evidence that no word satisfies a formula and is at the same time accepted by an automaton, or rejected by it.
 
 ghost use Rattle.std.specs.Prelude.{◌≡◌, ◌<◌, ℕ, ◌%◌, List};
 ghost use Rattle.std.specs.Bool.{OnTrue};
@@ -10,22 +10,23 @@ ghost use Rattle.pg_means_look.specs.Mirrors.Views.{node_at, rank_in, witness_in
 
 use crate::places::has;
 
-/// A state of the automaton, and a set of formulas by its number.
+/// A state of the automaton, and a set of formulas, by its number.
 #[derive(Clone, Copy, Debug, PartialEq, Eq)]
 pub struct Node {
     pub state: u32,
     pub set: usize,
 }
 
-/// What is said of a priority: the rank of each node, and for each rank perhaps the place of an Until. Past the ends of the lists ranks
-/// are 0, and no Until is given.
+/// What a certificate says of one priority: the rank of each node, and for each rank possibly the place of an Until. Past the ends of the
+/// lists, ranks are 0 and there is no Until.
 #[derive(Debug, Drop)]
 pub struct Level {
     pub ranks: Vec<u32>,
     pub witnesses: Vec<Option<usize>>,
 }
 
-/// Nodes of a product; sets of formulas, by their places; and the levels of the priorities of one parity, the least first.
+/// The nodes of a product, the sets of formulas, by their places, and the levels of the priorities of one parity, the least priority
+/// first.
 #[derive(Debug, Drop)]
 pub struct Certificate {
     pub nodes: Vec<Node>,
@@ -46,7 +47,7 @@ impl Level {
         self.witnesses.get(rank as usize).copied().unwrap_or(None)
     }
 
-    /// Whether an edge of the priority from `v` to `w` doesn't speak against what the level says of the priority `p`.
+    /// Whether an edge of this priority from `v` to `w` is consistent with what the level says of the priority `p`.
     fn is_fine(&self, p: usize, priority: u32, puts: &[usize], v: usize, w: usize) -> bool
         ensures { OnTrue result (IsFineAt self.now.ranks.items self.now.witnesses.items p priority puts.now v w) }
     {
@@ -66,7 +67,7 @@ impl Level {
 }
 
 impl Certificate {
-    /// Whether an edge of the priority from `v` to `w` doesn't speak against what is said of any priority of the parity.
+    /// Whether an edge of this priority from `v` to `w` is consistent with what the certificate says of each priority of the parity.
     pub(crate) fn is_fine(
         &self,
         parity: u32,
@@ -91,7 +92,7 @@ impl Certificate {
         true
     }
 
-    /// The node of this number; past the end state 0 with the set 0.
+    /// Returns the node with this number; past the last node, state 0 with the set 0.
     pub(crate) fn node(&self, v: usize) -> Node
         ensures { result ≡ node_at self.now.nodes.items v }
     {
@@ -101,7 +102,7 @@ impl Certificate {
         }
     }
 
-    /// The formulas of a set; past the last set none.
+    /// Returns the formulas of the set with this number; past the last set, none.
     pub(crate) fn set(&self, number: usize) -> &[usize]
         ensures { result.now ≡ row_at self.now.sets.items number }
     {

@@ -1,4 +1,4 @@
-//! Choices of a tableau.
+//! The choices of a tableau.
 
 ghost use Rattle.std.specs.Prelude.{◌≡◌, ◌++◌, ◌∷◌, [], List, IfOk, OnOk};
 ghost use Rattle.std.specs.Bool.{OnTrue};
@@ -10,16 +10,16 @@ ghost use Rattle.pg_means_look.specs.Mirrors.Choices.{part, choice_of, choices_i
 use crate::places::{is_within, union};
 use std::alloc::{AllocError, Global};
 
-/// What a set of formulas asks of the word behind a letter: formulas by their places in a list, the least first.
+/// What a set of formulas asks of the word after a letter: formulas by their places in a list, in rising order.
 #[derive(Debug, Drop)]
 pub struct Choice {
-    /// What has to hold from the next step on.
+    /// The formulas that must hold from the next step on.
     pub asks: Vec<usize>,
-    /// The Untils that were put off.
+    /// The Untils that are put off.
     pub puts: Vec<usize>,
 }
 
-/// The choice that asks for nothing.
+/// Returns the choice that asks for nothing.
 pub(crate) fn free(alloc: Global) -> Choice
     ensures { (forms : List NormalForm) → choice_of forms result ≡ tableaux.free }
 {
@@ -29,7 +29,7 @@ pub(crate) fn free(alloc: Global) -> Choice
     }
 }
 
-/// A list of one choice.
+/// Returns a list of one choice.
 pub(crate) fn alone(alloc: Global, choice: Choice) -> Result<Vec<Choice>, AllocError>
     ensures { IfOk result (λ list. list.items ≡ choice ∷ []) }
 {
@@ -46,7 +46,7 @@ fn one_place(alloc: Global, place: usize) -> Result<Vec<usize>, AllocError>
     Ok(list)
 }
 
-/// The choice that asks for one formula.
+/// Returns the choice that asks for one formula.
 pub(crate) fn asked(alloc: Global, place: usize) -> Result<Choice, AllocError>
     ensures { IfOk result (λ c. (forms : List NormalForm) → choice_of forms c ≡ tableaux.asked (part forms place)) }
 {
@@ -57,7 +57,7 @@ pub(crate) fn asked(alloc: Global, place: usize) -> Result<Choice, AllocError>
     })
 }
 
-/// The choice that puts off an Until.
+/// Returns the choice that puts off an Until.
 pub(crate) fn put_off(alloc: Global, place: usize) -> Result<Choice, AllocError>
     ensures { IfOk result (λ c. (forms : List NormalForm) → choice_of forms c ≡ tableaux.put_off (part forms place)) }
 {
@@ -66,14 +66,14 @@ pub(crate) fn put_off(alloc: Global, place: usize) -> Result<Choice, AllocError>
     Ok(Choice { asks, puts })
 }
 
-/// Whether the first choice asks for no more than the second one, and puts off no more.
+/// Whether the first choice asks for no more than the second one and puts off no more.
 fn is_no_more(first: &Choice, second: &Choice) -> bool
     ensures { OnTrue result ((forms : List NormalForm) → IsNoMore (choice_of forms first.now) (choice_of forms second.now)) }
 {
     is_within(&first.asks, &second.asks) && is_within(&first.puts, &second.puts)
 }
 
-/// What both ask for.
+/// Returns what both choices ask for together.
 fn join(alloc: Global, first: &Choice, second: &Choice) -> Result<Choice, AllocError>
     ensures { IfOk result (λ both. (forms : List NormalForm)
         → IsNoMore (choice_of forms both) (joined (choice_of forms first.now) (choice_of forms second.now))) }
@@ -91,7 +91,7 @@ fn copied(alloc: Global, choice: &Choice) -> Result<Choice, AllocError>
     Ok(Choice { asks, puts })
 }
 
-/// Whether one of those that are kept asks for no more.
+/// Whether one of the kept choices asks for no more and puts off no more.
 fn is_covered(kept: &[Choice], choice: &Choice) -> bool
     ensures { OnTrue result ((forms : List NormalForm) → IsLeftOut (choice_of forms choice.now) (choices_in forms kept.now)) }
 {
@@ -103,7 +103,7 @@ fn is_covered(kept: &[Choice], choice: &Choice) -> bool
     false
 }
 
-/// Keeps the choice, unless one that is kept asks for no more.
+/// Keeps the choice, unless one of the kept choices asks for no more and puts off no more.
 fn keep(kept: &mut Vec<Choice>, choice: Choice) -> Result<(), AllocError>
     ensures covered { OnOk result ((forms : List NormalForm) → IsLeftOut (choice_of forms choice) (choices_in forms kept.new.items)) }
     ensures keeps { OnOk result ((forms : List NormalForm) → Keeps (choices_in forms kept.old.items) (choices_in forms kept.new.items)) }
@@ -133,7 +133,8 @@ fn keep_each(
     Ok(())
 }
 
-/// What one of the first and one of the second choices ask for together.
+/// Returns what each choice of the first list and each of the second ask for together, leaving out those for which a kept choice asks for
+/// no more and puts off no more.
 pub(crate) fn product_of(
     alloc: Global,
     first: &[Choice],
@@ -149,7 +150,7 @@ pub(crate) fn product_of(
     Ok(kept)
 }
 
-/// The choices of both lists.
+/// Returns the choices of both lists, leaving out those for which a kept choice asks for no more and puts off no more.
 pub(crate) fn all_of(
     alloc: Global,
     first: &[Choice],

@@ -1,4 +1,4 @@
-//! The look at a lasso: whether it is a word of a formula that an automaton accepts, or rejects.
+//! The look at a lasso: whether it is a word that satisfies a formula and that an automaton accepts, or rejects.
 
 ghost use Rattle.std.specs.Prelude.{◌≡◌, ◌↔◌, ◌<◌, ◌≤◌, ℕ, All, true, false, IfOk, IfSome, IsTrue, length};
 ghost use Rattle.std.specs.Bool.{OnTrue};
@@ -13,7 +13,7 @@ use crate::values::holds_on;
 use pg_ltl::NormalNode;
 use std::alloc::{AllocError, Global};
 
-/// The states of the run on the letters, the one behind the last letter too.
+/// Returns the states of the run on the letters, the one after the last letter included.
 fn states_on(
     alloc: Global,
     automaton: &ParityAutomaton,
@@ -31,7 +31,7 @@ fn states_on(
     Ok(states)
 }
 
-/// The greatest priority at the places from `back` on.
+/// Returns the greatest priority at the places from `back` on.
 fn greatest_on(automaton: &ParityAutomaton, letters: &[u32], states: &[u32], back: usize) -> u32
     requires back { back < length letters.now }
     requires run { IsRunOn (automaton_of automaton.now) letters.now states.now }
@@ -47,7 +47,7 @@ fn greatest_on(automaton: &ParityAutomaton, letters: &[u32], states: &[u32], bac
     most
 }
 
-/// Whether the automaton accepts the lasso, if its run comes round with it.
+/// Whether the automaton accepts the lasso, or `None` if its run doesn't return with the lasso to the state at `back`.
 fn accepts(
     alloc: Global,
     automaton: &ParityAutomaton,
@@ -64,7 +64,7 @@ fn accepts(
     Ok(Some(greatest_on(automaton, letters, &states, back) % 2 == 0))
 }
 
-/// Whether the letters are all below this.
+/// Whether all letters are below `bound`.
 fn are_below(letters: &[u32], bound: u32) -> bool
     ensures { OnTrue result (All (λ letter. letter < bound) letters.now) }
 {
@@ -76,7 +76,7 @@ fn are_below(letters: &[u32], bound: u32) -> bool
     true
 }
 
-/// Whether the answer is yes for the parity 0, and no for 1.
+/// Whether the answer is yes for the parity 0, or no for the parity 1.
 fn is_of(yes: bool, parity: u32) -> bool
     ensures even { OnTrue result (parity ≡ 0 → yes ≡ true) }
     ensures odd { OnTrue result (parity ≡ 1 → yes ≡ false) }
@@ -88,8 +88,9 @@ fn is_of(yes: bool, parity: u32) -> bool
     }
 }
 
-/// Whether the word of the letters, those from `back` on again and again, is one of the formula at the place `root` of a list, and the
-/// automaton accepts it, for the parity 0, or rejects it, for 1. Where the answer is no it may be so all the same.
+/// Whether the lasso of these letters, which repeats those from `back` on for ever, satisfies the formula at the place `root` of a list,
+/// and the automaton accepts it, for the parity 0, or rejects it, for the parity 1. `true` is proved; `false` proves nothing. Fails only
+/// if an allocation fails.
 pub fn is_shown(
     alloc: Global,
     automaton: &ParityAutomaton,

@@ -1,5 +1,5 @@
-//! Looks at what is proposed of a deterministic parity automaton and a formula: certificates, which show that both say the same of each
-//! word, and lassos, on which they differ.
+//! Checks proposals about a deterministic parity automaton and a formula: certificates, which show that both agree on every word, and
+//! lassos, on which they differ.
 #![tactic(auto)]
 
 mod automaton;

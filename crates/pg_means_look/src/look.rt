@@ -1,4 +1,4 @@
-//! The look: whether a certificate shows that a product is empty.
+//! The look at a certificate: whether it shows that a product is empty.
 
 ghost use Rattle.std.specs.Prelude.{ℕ, ◌<◌, List, All, IfOk, length};
 ghost use Rattle.std.specs.Bool.{OnTrue};
@@ -20,13 +20,13 @@ use crate::pool::{Pool, Pooled, list_at};
 use pg_ltl::NormalNode;
 use std::alloc::{AllocError, Global};
 
-/// Who knows the numbers of nodes. What it says is looked at.
+/// Finds the numbers of nodes. Its answers are checked.
 pub trait Finder {
-    /// The number of a node with this state, whose formulas are among these.
+    /// Returns the number of a node with this state whose formulas are among `asks`, a rising list, or `None` if there is none.
     fn find(&self, state: u32, asks: &[usize]) -> Option<usize>;
 }
 
-/// Whether some node stands for what the choice asks, and the edge there doesn't speak against the certificate.
+/// Whether some node stands for what the choice asks for, and the edge to it is consistent with the certificate.
 fn goes<F: Finder>(
     automaton: &ParityAutomaton,
     certificate: &Certificate,
@@ -54,7 +54,7 @@ fn goes<F: Finder>(
     certificate.is_fine(parity, edge.priority, &choice.puts, v, to)
 }
 
-/// Whether each choice goes from the node to one.
+/// Whether each choice leads from the node `v` to some node.
 fn goes_each<F: Finder>(
     automaton: &ParityAutomaton,
     certificate: &Certificate,
@@ -76,7 +76,8 @@ fn goes_each<F: Finder>(
     true
 }
 
-/// Whether each choice at the letter goes from each node to one, by lists of choices of the sets at this letter.
+/// Whether each choice at the letter leads from each node to some node. `numbers` gives for each set the number of its list of choices at
+/// this letter.
 fn goes_from_each<F: Finder>(
     automaton: &ParityAutomaton,
     certificate: &Certificate,
@@ -105,7 +106,7 @@ fn goes_from_each<F: Finder>(
     true
 }
 
-/// For each set of the certificate the number of its choices at the letter.
+/// Returns for each set of the certificate the number of its list of choices at the letter.
 fn numbers_at(
     alloc: Global,
     automaton: &ParityAutomaton,
@@ -125,7 +126,7 @@ fn numbers_at(
     pool.numbers(alloc, sets, &rows)
 }
 
-/// Whether the places of all sets are below this.
+/// Whether the places in all sets are below `bound`.
 fn are_sets_below(sets: &[Vec<usize>], bound: usize) -> bool
     ensures { OnTrue result (All (λ (set : Vec ℕ Global). All (λ place. place < bound) set.items) sets.now) }
 {
@@ -137,7 +138,7 @@ fn are_sets_below(sets: &[Vec<usize>], bound: usize) -> bool
     true
 }
 
-/// Whether the first node stands for the start, and for the formula at a place.
+/// Whether the first node stands for the automaton's start and the formula at the place `root`.
 fn starts(automaton: &ParityAutomaton, certificate: &Certificate, root: usize) -> bool
     ensures { OnTrue result ((forms : List NormalForm) → StartsAt (automaton_of automaton.now) (certificate_of forms certificate.now)
         (part forms root)) }
@@ -149,9 +150,9 @@ fn starts(automaton: &ParityAutomaton, certificate: &Certificate, root: usize) -
     is_within(certificate.set(first.set), &[root])
 }
 
-/// Whether the certificate shows that no word is one of the formula and has a greatest recurring priority of this parity in the
-/// automaton: 0 for even, 1 for odd. The formula is the one at the place `root` of a list. Each letter is looked at, each node, and
-/// each choice of the node's formulas. Where the answer is no there may be such words or not.
+/// Whether the certificate shows that no word both satisfies the formula at the place `root` of a list and has in the automaton a
+/// greatest recurring priority of this parity: 0 for even, 1 for odd. Looks at each letter, each node, and each choice of the node's
+/// formulas. `true` is proved; with `false` there may be such a word or not. Fails only if an allocation fails.
 pub fn shows_empty<F: Finder>(
     alloc: Global,
     automaton: &ParityAutomaton,

@@ -5,7 +5,7 @@ ghost use Rattle.std.specs.Bool.{OnTrue};
 
 use std::alloc::{AllocError, Global};
 
-/// The first place from `from` on that is no less than the other one.
+/// Returns the first index from `from` on whose place is at least `place`, or the length of the list if there is none.
 fn seek(places: &[usize], from: usize, place: usize) -> usize {
     let mut j = from;
     while j < places.len() && places[j] < place {
@@ -14,7 +14,7 @@ fn seek(places: &[usize], from: usize, place: usize) -> usize {
     j
 }
 
-/// Whether each of the few is one of the many.
+/// Whether each of `few` is one of `many`.
 pub(crate) fn is_within(few: &[usize], many: &[usize]) -> bool
     ensures { OnTrue result (All (Contains many.now) few.now) }
 {
@@ -28,7 +28,7 @@ pub(crate) fn is_within(few: &[usize], many: &[usize]) -> bool
     true
 }
 
-/// Whether the place is among these.
+/// Whether the place is one of `places`.
 pub(crate) fn has(places: &[usize], place: usize) -> bool
     ensures { OnTrue result (Contains places.now place) }
 {
@@ -36,7 +36,7 @@ pub(crate) fn has(places: &[usize], place: usize) -> bool
     at < places.len() && places[at] == place
 }
 
-/// Whether the places are all below this.
+/// Whether all places are below `bound`.
 pub fn are_below(places: &[usize], bound: usize) -> bool
     ensures { OnTrue result (All (λ place. place < bound) places.now) }
 {
@@ -48,7 +48,7 @@ pub fn are_below(places: &[usize], bound: usize) -> bool
     true
 }
 
-/// Puts the places from `from` on that are below the limit behind the others, and says where the rest begins.
+/// Appends to `out` the places from index `from` on that are below the limit, and returns the index of the rest.
 fn push_below(
     out: &mut Vec<usize>,
     places: &[usize],
@@ -65,7 +65,7 @@ fn push_below(
     Ok(j)
 }
 
-/// The places of both lists: each is in one of them.
+/// Returns the places that are in at least one of the lists.
 pub(crate) fn union(alloc: Global, a: &[usize], b: &[usize]) -> Result<Vec<usize>, AllocError>
     ensures { IfOk result (λ u. All (λ x. Contains a.now x ⊎ Contains b.now x) u.items) }
 {

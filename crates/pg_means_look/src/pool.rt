@@ -1,4 +1,4 @@
-//! Lists of choices in a pool, each made once. At most letters the list of a formula, or of a set of formulas, is there already.
+//! Lists of choices in a pool, each made only once. At most letters, the list of a formula, or of a set of formulas, is there already.
 
 ghost use Rattle.std.specs.Prelude.{◌≡◌, ◌<◌, ◌≤◌, ◌++◌, ◌∷◌, [], ℕ, Bool, List, All, IfOk, length, if◌then◌else◌};
 ghost use Rattle.std.specs.Bool.{OnTrue};
@@ -18,51 +18,51 @@ use crate::values::node_at;
 use pg_ltl::NormalNode;
 use std::alloc::{AllocError, Global};
 
-/// So many slots there are at first.
+/// The number of slots at first.
 const FIRST_SLOTS: usize = 1 << 10;
 
-/// Past so many lists all are let go before the next letter.
+/// Once there are more lists than this, all are dropped before the next letter.
 const MOST_LISTS: usize = 1 << 14;
 
-/// So many slots are looked at for a list.
+/// How many slots are searched for a list.
 const MOST_LOOKS: usize = 32;
 
-/// Where nothing is.
+/// Marks an empty slot.
 const NONE: u32 = u32::MAX;
 
-/// What a list of choices is made of: others by their numbers, and formulas by their places.
+/// What a list of choices is made of: other lists, by their numbers, and formulas, by their places.
 #[derive(Clone, Copy, Debug, PartialEq, Eq)]
 pub enum Origin {
-    /// The choice that asks for nothing.
+    /// The single choice that asks for nothing.
     Free,
     /// No choice.
     Nothing,
-    /// One that asks for a formula.
+    /// The single choice that asks for a formula.
     Asked(usize),
-    /// One that puts off an Until.
+    /// The single choice that puts off an Until.
     PutOff(usize),
-    /// What choices of two lists ask for together.
+    /// What each choice of the first list and each of the second ask for together.
     Product(usize, usize),
-    /// The choices of two lists.
+    /// The choices of both lists.
     Union(usize, usize),
 }
 
-/// A list of choices, and what it is made of.
+/// A list of choices, and its origin.
 #[derive(Debug, Drop)]
 pub struct Pooled {
     pub origin: Origin,
     pub list: Vec<Choice>,
 }
 
-/// Lists of choices by their numbers.
+/// Lists of choices, by their numbers.
 #[derive(Debug, Drop)]
 pub struct Pool {
     pub lists: Vec<Pooled>,
-    /// By their origins numbers of lists. What a slot says is looked at.
+    /// A hash table that finds the numbers of lists by their origins. Its answers are checked.
     slots: Vec<u32>,
 }
 
-/// The list of this number; past the last one none.
+/// Returns the list with this number; past the last list, an empty one.
 pub(crate) fn list_at(lists: &[Pooled], number: usize) -> &[Choice]
     ensures { result.now ≡ list_at lists.now number }
 {
@@ -72,7 +72,7 @@ pub(crate) fn list_at(lists: &[Pooled], number: usize) -> &[Choice]
     }
 }
 
-/// Two numbers in one.
+/// Mixes a kind and two numbers into one number.
 fn mixed(kind: u64, a: usize, b: usize) -> usize {
     let mut sum = kind.wrapping_mul(0x9E37_79B9_7F4A_7C15);
     sum = (sum ^ a as u64).wrapping_mul(0x9E37_79B9_7F4A_7C15);
@@ -82,7 +82,7 @@ fn mixed(kind: u64, a: usize, b: usize) -> usize {
     sum as usize
 }
 
-/// A number that depends on all of the origin.
+/// Returns a number that depends on every part of the origin.
 fn sum_of(origin: Origin) -> usize {
     match origin {
         Origin::Free => 0,
@@ -94,14 +94,14 @@ fn sum_of(origin: Origin) -> usize {
     }
 }
 
-/// Whether both are the same.
+/// Whether the origins are equal.
 fn is_same(a: Origin, b: Origin) -> bool
     ensures { OnTrue result (a ≡ b) }
 {
     a == b
 }
 
-/// What a literal asks for where its proposition has this value.
+/// Returns the origin of a literal's choices where its proposition's value is `held` and the literal asks for `value`.
 fn literal(held: bool, value: bool) -> Origin
     ensures within { (count : ℕ) → IsWithin count result }
     ensures made { (forms : List NormalForm) (lists : List Pooled)
@@ -115,7 +115,7 @@ fn literal(held: bool, value: bool) -> Origin
 }
 
 impl Pool {
-    /// A pool without lists.
+    /// Returns a pool without lists.
     pub fn new(alloc: Global) -> Pool
         ensures { result.lists.items ≡ [] }
     {
@@ -125,7 +125,7 @@ impl Pool {
         }
     }
 
-    /// Lets all lists go, if they are many.
+    /// Drops all lists if there are too many.
     pub(crate) fn clear_if_full(&mut self, alloc: Global)
         ensures { (forms : List NormalForm) → IsPool forms self.old.lists.items → IsPool forms self.new.lists.items }
     {
@@ -134,14 +134,14 @@ impl Pool {
         }
     }
 
-    /// The list of this number; past the last one none.
+    /// Returns the list with this number; past the last list, an empty one.
     pub fn list(&self, number: usize) -> &[Choice]
         ensures { result.now ≡ list_at self.now.lists.items number }
     {
         list_at(&self.lists, number)
     }
 
-    /// Whether the list with this number is of the origin.
+    /// Whether the list with this number has the origin.
     fn is_of(&self, number: usize, origin: Origin) -> bool
         ensures { OnTrue result (IsAt self.now.lists.items origin number) }
     {
@@ -151,7 +151,7 @@ impl Pool {
         is_same(self.lists[number].origin, origin)
     }
 
-    /// The slot of the origin: that of its list, or the first free one.
+    /// Returns the slot of the list with the origin if there is one, or else the first free slot.
     fn slot(&self, origin: Origin) -> usize {
         let count = self.slots.len();
         if count == 0 {
@@ -169,7 +169,7 @@ impl Pool {
         slot
     }
 
-    /// Makes a list of its origin.
+    /// Builds the list of an origin.
     fn list_of(&self, alloc: Global, origin: Origin) -> Result<Vec<Choice>, AllocError>
         ensures { IfOk result (λ list. (forms : List NormalForm)
             → AreCovered (choices_in forms list.items) (made forms self.now.lists.items origin)) }
@@ -188,7 +188,7 @@ impl Pool {
         }
     }
 
-    /// Lets the slot say the number.
+    /// Writes the number into the slot.
     fn put(&mut self, slot: usize, number: usize)
         ensures { self.new.lists ≡ self.old.lists }
     {
@@ -210,7 +210,7 @@ impl Pool {
         Ok(())
     }
 
-    /// Adds a list, and says its number.
+    /// Adds a list and returns its number.
     fn add(&mut self, alloc: Global, list: Pooled) -> Result<usize, AllocError>
         ensures { IfOk result (λ number. (number ≡ length self.old.lists.items)
             × (self.new.lists.items ≡ self.old.lists.items ++ list ∷ [])) }
@@ -225,7 +225,7 @@ impl Pool {
         Ok(number)
     }
 
-    /// The number of the list of an origin, which is made if it isn't there.
+    /// Returns the number of the list of an origin, building the list if it isn't there.
     fn number(&mut self, alloc: Global, origin: Origin) -> Result<usize, AllocError>
         ensures { IfOk result (λ number. (forms : List NormalForm) → IsPool forms self.old.lists.items
             → IsWithin (length self.old.lists.items) origin
@@ -240,14 +240,14 @@ impl Pool {
         self.add(alloc, Pooled { origin, list })
     }
 
-    /// Whether no choice is in the list with this number.
+    /// Whether the list with this number is empty.
     fn is_nothing(&self, number: usize) -> bool
         ensures { OnTrue result (list_at self.now.lists.items number ≡ []) }
     {
         list_at(&self.lists, number).is_empty()
     }
 
-    /// Whether the list with this number has the choice that asks for nothing, and no other.
+    /// Whether the list with this number consists of just the choice that asks for nothing.
     fn is_free(&self, number: usize) -> bool {
         match list_at(&self.lists, number) {
             [choice] => choice.asks.is_empty() && choice.puts.is_empty(),
@@ -255,7 +255,8 @@ impl Pool {
         }
     }
 
-    /// The number of what choices of two lists ask for together. Lists that are equal by the laws of products get one number.
+    /// Returns the number of the list of what each choice of list `a` and each of list `b` ask for together. A product with an empty
+    /// list, or with the choice that asks for nothing, gets the number of an existing list.
     fn product(&mut self, alloc: Global, a: usize, b: usize) -> Result<usize, AllocError>
         ensures { IfOk result (λ number. (forms : List NormalForm) (first second : List tableaux.Choice) → IsPool forms self.old.lists.items
             → Stands forms self.old.lists.items first a → Stands forms self.old.lists.items second b
@@ -270,7 +271,7 @@ impl Pool {
         self.number(alloc, Origin::Product(a, b))
     }
 
-    /// The number of the choices of two lists.
+    /// Returns the number of the list of the choices of both lists.
     fn union(&mut self, alloc: Global, a: usize, b: usize) -> Result<usize, AllocError>
         ensures { IfOk result (λ number. (forms : List NormalForm) (first second : List tableaux.Choice) → IsPool forms self.old.lists.items
             → Stands forms self.old.lists.items first a → Stands forms self.old.lists.items second b
@@ -285,7 +286,7 @@ impl Pool {
         self.number(alloc, Origin::Union(a, b))
     }
 
-    /// The right side now, or the left side now and the Until, at this place, put off.
+    /// Returns the number of the choices of an Until at this place: the right side now, or the left side now and the Until put off.
     fn until(
         &mut self,
         alloc: Global,
@@ -302,7 +303,7 @@ impl Pool {
         self.union(alloc, right, later)
     }
 
-    /// The right side now, and the left side now or the Release, at this place, again.
+    /// Returns the number of the choices of a Release at this place: the right side now, and the left side now or the Release again.
     fn release(
         &mut self,
         alloc: Global,
@@ -319,7 +320,7 @@ impl Pool {
         self.product(alloc, right, ways)
     }
 
-    /// The number of the choices of the formula at a place, by those of the formulas before it.
+    /// Returns the number of the choices of the next formula, `node`. `rows` has the numbers of the choices of the formulas before it.
     fn row(
         &mut self,
         alloc: Global,
@@ -351,7 +352,8 @@ impl Pool {
         }
     }
 
-    /// For each formula of a list the number of its choices at a letter.
+    /// Returns for each formula of a list the number of its choices at a letter. `truths` says for each proposition at which letters it
+    /// holds. Fails only if an allocation fails.
     pub fn rows(
         &mut self,
         alloc: Global,
@@ -372,7 +374,8 @@ impl Pool {
         Ok(rows)
     }
 
-    /// The number of the choices of a set of formulas, by those of each formula.
+    /// Returns the number of the choices of a set of formulas. `rows` has the number of the choices of each formula, and every place in
+    /// `set` must be below its length. Fails only if an allocation fails.
     pub fn set(&mut self, alloc: Global, set: &[usize], rows: &[usize]) -> Result<usize, AllocError>
         requires { All (λ place. place < length rows.now) set.now }
         ensures { IfOk result (λ number. (forms : List NormalForm) (letter : ℕ → Bool) → IsPool forms self.old.lists.items
@@ -388,7 +391,7 @@ impl Pool {
         Ok(number)
     }
 
-    /// For each set the number of its choices, by those of each formula.
+    /// Returns for each set the number of its choices, by the numbers of the choices of each formula.
     pub(crate) fn numbers(
         &mut self,
         alloc: Global,

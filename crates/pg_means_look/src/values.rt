@@ -1,4 +1,4 @@
-//! Formulas on a lasso: at each place of it whether each formula of a list holds there.
+//! Formulas on a lasso: whether each formula of a list holds at each place of it.
 
 ghost use Rattle.std.specs.Prelude.{◌≡◌, ◌<◌, ◌≤◌, ℕ, Bool, true, List, IfOk, length, replicate, slice_index_or, ◌⊎◌};
 ghost use Rattle.std.specs.Bool.{OnTrue};
@@ -12,7 +12,7 @@ use crate::automaton::holds;
 use pg_ltl::NormalNode;
 use std::alloc::{AllocError, Global};
 
-/// The node at a place.
+/// Returns the node at a place.
 pub(crate) fn node_at(nodes: &[NormalNode], place: usize) -> NormalNode
     requires { place < length nodes.now }
     ensures { result ≡ normal_node_in nodes.now place }
@@ -20,7 +20,7 @@ pub(crate) fn node_at(nodes: &[NormalNode], place: usize) -> NormalNode
     nodes[place]
 }
 
-/// The place behind a place of a lasso.
+/// Returns the place after a place of a lasso: after the last one comes `back`.
 pub(crate) fn behind(count: usize, back: usize, place: usize) -> usize
     requires { place < count }
     ensures { result ≡ behind count back place }
@@ -28,7 +28,7 @@ pub(crate) fn behind(count: usize, back: usize, place: usize) -> usize
     if place + 1 == count { back } else { place + 1 }
 }
 
-/// The values of a formula, by its place.
+/// Returns the values of a formula, by its place.
 fn row(rows: &[Vec<bool>], place: usize) -> &[bool]
     requires { place < length rows.now }
     ensures { result.now ≡ row_at rows.now place }
@@ -36,7 +36,7 @@ fn row(rows: &[Vec<bool>], place: usize) -> &[bool]
     rows[place].as_slice()
 }
 
-/// Whether both are the same.
+/// Whether the values are equal.
 fn is_same(a: bool, b: bool) -> bool
     ensures { result ≡ true → a ≡ b }
 {
@@ -49,7 +49,7 @@ fn value(values: &[bool], place: usize) -> bool
     values.get(place).copied().unwrap_or(false)
 }
 
-/// Whether the literal holds at each letter.
+/// Returns for each letter whether the literal holds there.
 fn literal_values(
     alloc: Global,
     truths: &[Vec<bool>],
@@ -67,7 +67,7 @@ fn literal_values(
     Ok(values)
 }
 
-/// Where both are so.
+/// Returns the values of a conjunction: true where both operands are.
 fn both_values(alloc: Global, left: &[bool], right: &[bool]) -> Result<Vec<bool>, AllocError>
     ensures { IfOk result (λ values. (i : ℕ) → value_at values.items i ≡ true
         → (value_at left.now i ≡ true) × (value_at right.now i ≡ true)) }
@@ -79,7 +79,7 @@ fn both_values(alloc: Global, left: &[bool], right: &[bool]) -> Result<Vec<bool>
     Ok(values)
 }
 
-/// Where one of them is so.
+/// Returns the values of a disjunction: true where at least one of the operands is.
 fn either_values(alloc: Global, left: &[bool], right: &[bool]) -> Result<Vec<bool>, AllocError>
     ensures { IfOk result (λ values. (i : ℕ) → value_at values.items i ≡ true
         → (value_at left.now i ≡ true) ⊎ (value_at right.now i ≡ true)) }
@@ -91,7 +91,7 @@ fn either_values(alloc: Global, left: &[bool], right: &[bool]) -> Result<Vec<boo
     Ok(values)
 }
 
-/// Where it is so behind a place.
+/// Returns the values of a Next: true where the operand is true at the next place.
 fn next_values(
     alloc: Global,
     operand: &[bool],
@@ -107,14 +107,14 @@ fn next_values(
     Ok(values)
 }
 
-/// So many times the same.
+/// Returns a list of `count` equal values.
 fn all_same(alloc: Global, value: bool, count: usize) -> Result<Vec<bool>, AllocError>
     ensures { IfOk result (λ values. values.items ≡ replicate count value) }
 {
     vec![in alloc; value; count]
 }
 
-/// Whether the right side is so, or the left side and what is behind.
+/// Whether the right side is true, or the left side and the next value are.
 fn is_until(right: bool, left: bool, later: bool) -> bool
     ensures { result ≡ true → (right ≡ true) ⊎ ((left ≡ true) × (later ≡ true)) }
 {
@@ -124,7 +124,8 @@ fn is_until(right: bool, left: bool, later: bool) -> bool
     left && later
 }
 
-/// Once round from the end: true where the right side is, or the left side is and what is behind.
+/// Passes once over the places from the end, and sets a value to true where the right side is true, or the left side and the next value
+/// are.
 fn pass_until(mut values: Vec<bool>, left: &[bool], right: &[bool], back: usize) -> Vec<bool>
     ensures long { length result.items ≡ length values.items }
     ensures sound { (word : ℕ → ℕ → Bool) (f g : NormalForm) → IsSound (length values.items) back word f left.now
@@ -158,7 +159,8 @@ fn until_values(
     Ok(pass_until(once, left, right, back))
 }
 
-/// Once round from the end: false where the right side is, or the left side is and what is behind.
+/// Passes once over the places from the end, and sets a value to false where the right side is false, or the left side and the next value
+/// are.
 fn pass_release(mut values: Vec<bool>, left: &[bool], right: &[bool], back: usize) -> Vec<bool>
     ensures { length result.items ≡ length values.items }
 {
@@ -173,7 +175,7 @@ fn pass_release(mut values: Vec<bool>, left: &[bool], right: &[bool], back: usiz
     values
 }
 
-/// Whether what is true has the right side, and then the left side or what is behind it.
+/// Whether at each true value the right side is true, and the left side or the next value is.
 fn is_closed(values: &[bool], left: &[bool], right: &[bool], back: usize) -> bool
     ensures { OnTrue result (IsClosed back left.now right.now values.now) }
 {
@@ -206,7 +208,7 @@ fn release_values(
     Ok(values)
 }
 
-/// The values of the formula at a place of a list, by those of the formulas before it.
+/// Returns the values of the formula at a place of a list, by the values of the formulas before it.
 fn values_of_node(
     alloc: Global,
     node: NormalNode,
@@ -235,8 +237,7 @@ fn values_of_node(
     }
 }
 
-/// Whether the formula at the place `root` of a list holds of a lasso. Where the answer is no it may hold all the same, but this doesn't
-/// happen.
+/// Whether the formula at the place `root` of a list holds on a lasso. Only `true` is proved, but `false` is right too.
 pub(crate) fn holds_on(
     alloc: Global,
     nodes: &[NormalNode],

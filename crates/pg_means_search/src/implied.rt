@@ -1,15 +1,15 @@
-//! Formulas that others of a set imply: they make no difference, and without them there are fewer sets.
+//! Formulas that others of their set imply. They make no difference, and without them there are fewer sets.
 
 use pg_ltl::NormalNode;
 use std::alloc::{AllocError, Global};
 
-/// For each formula of a list formulas that imply it, by their places.
+/// For each formula of a list, the places of formulas that imply it.
 #[derive(Drop)]
 pub struct Implications {
     by: Vec<Vec<usize>>,
 }
 
-/// Notes that one formula is implied by another one.
+/// Notes that one formula is implied by another.
 fn note(by: &mut Vec<Vec<usize>>, implied: usize, other: usize) -> Result<(), AllocError> {
     if implied < by.len() {
         by[implied].push(other)?;
@@ -18,6 +18,7 @@ fn note(by: &mut Vec<Vec<usize>>, implied: usize, other: usize) -> Result<(), Al
 }
 
 impl Implications {
+    /// Notes which formulas of the list imply which others. Fails only if an allocation fails.
     pub fn new(alloc: Global, nodes: &[NormalNode]) -> Result<Implications, AllocError> {
         let mut by = Vec::with_capacity(alloc, nodes.len())?;
         for (place, node) in nodes.iter().enumerate() {
@@ -39,7 +40,7 @@ impl Implications {
         Ok(Implications { by })
     }
 
-    /// Whether a formula of the set, which is a rising list, implies this one.
+    /// Whether some other formula of the set, a rising list, implies this one.
     fn is_implied(&self, set: &[usize], place: usize) -> bool {
         let Some(by) = self.by.get(place) else {
             return false;
@@ -52,7 +53,7 @@ impl Implications {
         false
     }
 
-    /// The set without what others of it imply.
+    /// Returns the set, a rising list, without the formulas that others of the set imply.
     pub fn least(&self, alloc: Global, set: &[usize]) -> Result<Vec<usize>, AllocError> {
         let mut least = Vec::with_capacity(alloc, set.len())?;
         for place in set {

@@ -1,5 +1,5 @@
-//! Proposals of what shows that a deterministic parity automaton and a formula say the same of each word, or that they differ on one.
-//! Nothing is promised of what is proposed but that it is found safely and in the end: who wants to believe it looks at it.
+//! Proposes evidence that a deterministic parity automaton and a formula agree on every word, or a word on which they differ. Of a
+//! proposal it is promised only that the search is safe and ends: whoever wants to rely on a proposal must check it.
 #![tactic(auto)]
 
 mod graph;

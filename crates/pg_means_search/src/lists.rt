@@ -1,18 +1,18 @@
-//! Numbers for lists: equal ones have one number.
+//! Gives numbers to lists: equal lists have the same number.
 
 use std::alloc::{AllocError, Global};
 
-/// Lists, numbered from 0 on in the order in which they came.
+/// Lists, numbered from 0 in the order in which they were added.
 #[derive(Drop)]
 pub struct Lists {
     items: Vec<usize>,
-    /// Where each list ends.
+    /// The end of each list in `items`.
     ends: Vec<usize>,
-    /// By the remainders of their sums: the lists' numbers, counted from 1, and 0 where a slot is free.
+    /// A hash table of the lists' numbers, counted from 1; 0 marks a free slot.
     slots: Vec<usize>,
 }
 
-/// A number of 64 bits that depends on each item.
+/// Returns a number of 64 bits that depends on every item.
 fn sum_of(list: &[usize]) -> usize {
     let mut sum: u64 = 0x9E37_79B9_7F4A_7C15;
     for item in list {
@@ -31,12 +31,12 @@ impl Lists {
         }
     }
 
-    /// How many different lists came.
+    /// Returns how many different lists were added.
     pub fn len(&self) -> usize {
         self.ends.len()
     }
 
-    /// The list with a number, and an empty one past the last.
+    /// Returns the list with this number, or an empty one past the last.
     pub fn list(&self, number: usize) -> &[usize] {
         let end = self.end(number).min(self.items.len());
         let begin = if number == 0 {
@@ -51,7 +51,7 @@ impl Lists {
         self.ends.get(number).copied().unwrap_or(0)
     }
 
-    /// The slot of a list, or the free one where it would stand.
+    /// Returns the slot of a list, or the free slot where it belongs.
     fn slot(&self, list: &[usize]) -> usize {
         let count = self.slots.len();
         if count == 0 {
@@ -71,7 +71,7 @@ impl Lists {
         slot
     }
 
-    /// The number of a list that came.
+    /// Returns the number of a list, if it was added.
     pub fn find(&self, list: &[usize]) -> Option<usize> {
         match self.slots.get(self.slot(list)) {
             Some(number) if *number > 0 => Some(*number - 1),
@@ -79,7 +79,7 @@ impl Lists {
         }
     }
 
-    /// The number of a list, a new one if it didn't come before.
+    /// Returns the number of a list, adding it if it is new.
     pub fn number(&mut self, list: &[usize]) -> Result<usize, AllocError> {
         if let Some(number) = self.find(list) {
             return Ok(number);

@@ -1,4 +1,4 @@
-//! What is proposed: a certificate, or a lasso.
+//! What is proposed: a certificate or a lasso.
 
 ghost use Rattle.pg_ltl.specs.Mirrors.Nodes.{AreNormalNodes};
 
@@ -13,9 +13,9 @@ use std::alloc::{AllocError, AllocFailed, Global};
 /// Why nothing is proposed.
 #[derive(Clone, Copy, Debug, PartialEq, Eq)]
 pub enum SearchFault {
-    /// A growth was refused.
+    /// An allocation failed.
     OutOfMemory,
-    /// There are more than 16,777,216 edges, or more than 4,194,304 formulas times letters.
+    /// There are more than 16,777,216 edges or sets times letters, or more than 4,194,304 formulas times letters.
     TooLarge,
 }
 
@@ -31,7 +31,7 @@ impl<T: Drop> From<AllocFailed<T>> for SearchFault {
     }
 }
 
-/// A certificate, and the product that knows its nodes.
+/// A certificate, and the product that finds the certificate's nodes.
 #[derive(Drop)]
 pub struct Proposal {
     pub certificate: Certificate,
@@ -47,27 +47,27 @@ impl Finder for Proposal {
 /// What is proposed.
 #[derive(Drop)]
 pub enum Proposed {
-    /// No word is one of the formula, with a greatest recurring priority of the parity.
+    /// No word satisfies the formula and has a greatest recurring priority of the parity.
     Empty(Proposal),
-    /// This one is.
+    /// This word satisfies the formula and has a greatest recurring priority of the parity.
     Word(Lasso),
 }
 
-/// What was found of one priority.
+/// The result for one priority.
 #[derive(Drop)]
 enum Leveled {
     Fine(Level),
     Bad(Lasso),
 }
 
-/// What is known of a component: whether the priority is met inside, and which Untils each arc puts off.
+/// What is known of a component: whether the priority is met inside, and which Untils every arc inside puts off.
 #[derive(Drop)]
 struct Inner {
     met: bool,
     common: Option<Vec<usize>>,
 }
 
-/// For each component what is known of it.
+/// Returns what is known of each component.
 fn inner_of(
     alloc: Global,
     product: &Product,
@@ -100,7 +100,7 @@ fn inner_of(
     Ok(inner)
 }
 
-/// The level of a priority, or a word.
+/// Returns the level of a priority, or a word.
 fn level_of(
     alloc: Global,
     product: &Product,
@@ -134,7 +134,7 @@ fn level_of(
     }))
 }
 
-/// For each priority whether an arc has it, the greatest one at the end.
+/// Returns for each priority up to the greatest whether some arc has it.
 fn met_priorities(alloc: Global, product: &Product) -> Result<Vec<bool>, AllocError> {
     let mut met = Vec::new(alloc);
     for v in 0..product.len() {
@@ -151,7 +151,7 @@ fn met_priorities(alloc: Global, product: &Product) -> Result<Vec<bool>, AllocEr
     Ok(met)
 }
 
-/// The nodes of the product.
+/// Returns the nodes of the product.
 fn nodes_of(alloc: Global, product: &Product) -> Result<Vec<Node>, AllocError> {
     let mut nodes = Vec::with_capacity(alloc, product.len())?;
     for v in 0..product.len() {
@@ -164,7 +164,7 @@ fn nodes_of(alloc: Global, product: &Product) -> Result<Vec<Node>, AllocError> {
     Ok(nodes)
 }
 
-/// The sets of the product.
+/// Returns the sets of the product.
 fn sets_of(alloc: Global, product: &Product) -> Result<Vec<Vec<usize>>, AllocError> {
     let mut sets = Vec::with_capacity(alloc, product.sets.len())?;
     for number in 0..product.sets.len() {
@@ -173,8 +173,9 @@ fn sets_of(alloc: Global, product: &Product) -> Result<Vec<Vec<usize>>, AllocErr
     Ok(sets)
 }
 
-/// Proposes what shows that no word is one of the formula at the place `root` of a list and has a greatest recurring priority of this
-/// parity in the automaton, 0 for even, 1 for odd; or such a word.
+/// Proposes evidence that no word satisfies the formula at the place `root` of a list and has in the automaton a greatest recurring
+/// priority of this parity, 0 for even, 1 for odd; or proposes such a word. A proposal must be checked. Fails with `TooLarge` if the
+/// product exceeds a limit, and with `OutOfMemory` if an allocation fails.
 pub fn propose(
     alloc: Global,
     automaton: &ParityAutomaton,

@@ -1,4 +1,4 @@
-//! How large a product is.
+//! The size of a product.
 
 ghost use Rattle.pg_ltl.specs.Mirrors.Nodes.{AreNormalNodes};
 
@@ -8,14 +8,15 @@ use pg_ltl::NormalNode;
 use pg_means_look::ParityAutomaton;
 use std::alloc::Global;
 
-/// How many nodes and edges a product has.
+/// The number of nodes and of edges of a product.
 #[derive(Clone, Copy, Debug)]
 pub struct ProductSize {
     pub nodes: usize,
     pub edges: usize,
 }
 
-/// How large the product is of an automaton and the tableau of the formula at the place `root` of a list, as `propose` makes it.
+/// Returns the size of the product of an automaton and the tableau of the formula at the place `root` of a list, as `propose` builds it.
+/// Fails as `propose` does.
 pub fn size_of(
     alloc: Global,
     automaton: &ParityAutomaton,

@@ -1,4 +1,4 @@
-//! The choices of each formula at each letter, and where those of a set lead.
+//! The choices of each formula at each letter, and the sets to which the choices of a set lead.
 
 ghost use Rattle.pg_ltl.specs.Mirrors.Nodes.{AreNormalNodes};
 
@@ -9,26 +9,26 @@ use pg_ltl::NormalNode;
 use pg_means_look::{ParityAutomaton, Pool, are_below};
 use std::alloc::{AllocError, Global};
 
-/// So many formulas times letters are looked at, and no more.
+/// The most formulas times letters that are looked at.
 const MOST_TABLES: usize = 1 << 22;
 
 #[derive(Drop)]
 pub struct Tables {
-    /// How many formulas there are.
+    /// The number of formulas.
     formulas: usize,
     letters: usize,
     pool: Pool,
-    /// Letter by letter the number of the choices of each formula.
+    /// For each letter, the numbers of the choices of each formula.
     rows: Vec<usize>,
-    /// For each set and letter the number of its moves, counted from 1, or 0 where they weren't looked for.
+    /// For each set and letter, the number of its moves, counted from 1, or 0 if it isn't known yet.
     known: Vec<u32>,
-    /// For each list of choices the same.
+    /// For each list of choices, the number of its moves, counted from 1, or 0 if it isn't known yet.
     led: Vec<u32>,
-    /// Lists of moves: of each the set to which it leads, and that of the Untils that are put off.
+    /// Lists of moves. Each move has the number of the set to which it leads, and that of the set of Untils that it puts off.
     moves: Lists,
 }
 
-/// The number at a place, where it is counted from 1.
+/// Returns the number at a place, where numbers are counted from 1 and 0 means none.
 fn known_at(numbers: &[u32], place: usize) -> Option<usize> {
     match numbers.get(place) {
         Some(number) if *number > 0 => Some(*number as usize - 1),
@@ -36,7 +36,7 @@ fn known_at(numbers: &[u32], place: usize) -> Option<usize> {
     }
 }
 
-/// Puts a number at a place, counted from 1.
+/// Stores a number at a place, counted from 1.
 fn learn(numbers: &mut Vec<u32>, place: usize, number: usize) -> Result<(), AllocError> {
     for _ in numbers.len()..place.saturating_add(1) {
         numbers.push(0)?;
@@ -48,6 +48,8 @@ fn learn(numbers: &mut Vec<u32>, place: usize, number: usize) -> Result<(), Allo
 }
 
 impl Tables {
+    /// Looks up the choices of each formula at each letter. Fails with `TooLarge` if there are more than 4,194,304 formulas times
+    /// letters, and with `OutOfMemory` if an allocation fails.
     pub fn new(
         alloc: Global,
         automaton: &ParityAutomaton,
@@ -75,12 +77,13 @@ impl Tables {
         })
     }
 
-    /// The moves with a number: of each the set to which it leads, and that of the Untils that are put off.
+    /// Returns the moves with this number: for each, the number of the set to which it leads, and that of the set of Untils that it puts
+    /// off.
     pub fn moves(&self, number: usize) -> &[usize] {
         self.moves.list(number)
     }
 
-    /// The number of the moves to which the choices of a set at a letter lead.
+    /// Returns the number of the moves to which the choices of a set at a letter lead.
     pub fn look_up(
         &mut self,
         alloc: Global,
@@ -101,7 +104,7 @@ impl Tables {
         Ok(number)
     }
 
-    /// The number of the choices of a set at a letter.
+    /// Returns the number of the choices of a set at a letter.
     fn choices(
         &mut self,
         alloc: Global,
@@ -117,7 +120,7 @@ impl Tables {
         Ok(self.pool.set(alloc, set, rows)?)
     }
 
-    /// The number of the moves to which the choices of a list lead.
+    /// Returns the number of the moves to which the choices of a list lead.
     fn moves_of(
         &mut self,
         alloc: Global,

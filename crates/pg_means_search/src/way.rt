@@ -1,29 +1,29 @@
-//! Ways in a product, and lassos made of them.
+//! Ways in a product, and the lassos made of them.
 
 use crate::graph::is_inside;
 use crate::product::{Arc, Product};
 use pg_search_components::NONE;
 use std::alloc::{AllocError, Global};
 
-/// Letters one after another, and the place to which the last one leads back.
+/// Letters one after another; after the last one, the letter at the place `back` comes again.
 #[derive(Debug, Drop)]
 pub struct Lasso {
     pub letters: Vec<u32>,
     pub back: usize,
 }
 
-/// Which arc a way is to end with.
+/// The arc with which a way must end.
 #[derive(Clone, Copy)]
 enum Wanted {
-    /// One that leads to this node.
+    /// An arc that leads to this node.
     To(u32),
-    /// One of this priority.
+    /// An arc of this priority.
     Priority(u32),
-    /// One that doesn't put off this Until.
+    /// An arc that doesn't put off this Until.
     Without(usize),
 }
 
-/// Arcs of no greater priority inside one component.
+/// The arcs of at most this priority that stay inside a component.
 #[derive(Clone, Copy)]
 struct Inside<'a, 'b> {
     product: &'a Product,
@@ -39,7 +39,7 @@ fn is_wanted(product: &Product, arc: &Arc, wanted: Wanted) -> bool {
     }
 }
 
-/// How a node was reached.
+/// How a node was reached: from which node, by which arc.
 #[derive(Clone, Copy)]
 struct Step {
     from: u32,
@@ -47,7 +47,7 @@ struct Step {
 }
 
 impl Inside<'_, '_> {
-    /// A shortest way from a node to an arc that is wanted, that one included.
+    /// Returns a shortest way from a node to a wanted arc, that arc included. The way is empty if there is none.
     fn way(&self, alloc: Global, from: u32, wanted: Wanted) -> Result<Vec<Arc>, AllocError> {
         let mut steps: Vec<Option<Step>> = vec![in alloc; None; self.product.len()]?;
         let mut queue = Vec::new(alloc);
@@ -74,7 +74,7 @@ impl Inside<'_, '_> {
     }
 }
 
-/// The arcs by which a node was reached, and a last one.
+/// Returns the arcs by which the node `to` was reached from `from`, followed by a last arc.
 fn way_back(
     alloc: Global,
     steps: &[Option<Step>],
@@ -99,7 +99,7 @@ fn way_back(
     Ok(way)
 }
 
-/// The places that both lists have.
+/// Returns the places that both lists have.
 pub fn common_places(alloc: Global, a: &[usize], b: &[usize]) -> Result<Vec<usize>, AllocError> {
     let mut common = Vec::new(alloc);
     for place in a {
@@ -110,7 +110,7 @@ pub fn common_places(alloc: Global, a: &[usize], b: &[usize]) -> Result<Vec<usiz
     Ok(common)
 }
 
-/// A way round in a component, on which the priority is met, and no Until is put off by each arc.
+/// A way round in a component. `common` has the Untils that every arc so far puts off.
 #[derive(Drop)]
 struct Round {
     letters: Vec<u32>,
@@ -119,7 +119,7 @@ struct Round {
 }
 
 impl Round {
-    /// Goes along a way.
+    /// Follows a way.
     fn go(&mut self, alloc: Global, product: &Product, way: &[Arc]) -> Result<(), AllocError> {
         for arc in way {
             let puts = product.puts.list(arc.puts as usize);
@@ -134,7 +134,7 @@ impl Round {
         Ok(())
     }
 
-    /// An Until that each arc so far puts off.
+    /// Returns an Until that every arc so far puts off, if there is one.
     fn put_off(&self) -> Option<usize> {
         match &self.common {
             Some(common) => common.first().copied(),
@@ -143,7 +143,8 @@ impl Round {
     }
 }
 
-/// A lasso that goes round in a component, by arcs of no greater priority than this one, which is met.
+/// Returns a lasso that goes round in a component by arcs of at most this priority, on which this priority is met and no Until is put off
+/// by every arc.
 pub fn lasso_of(
     alloc: Global,
     product: &Product,
@@ -201,7 +202,7 @@ pub fn lasso_of(
     })
 }
 
-/// The first node of a component.
+/// Returns the first node of a component.
 fn root_of(ranks: &[u32], component: u32) -> u32 {
     for (v, rank) in ranks.iter().enumerate() {
         if *rank == component {

@@ -1,5 +1,5 @@
-//! Tests of `pg_ltl` and `pg_means`: a formula that is read, and whether an automaton says the same. More formulas, in many spellings, and those
-//! that are refused are shown by `tests/formulas.py`.
+//! Tests of `pg_ltl` and `pg_means`: a formula that is read, and whether an automaton says the same. `tests/formulas.py`
+//! shows more formulas, in many spellings, and formulas that are refused.
 #![tactic(auto)]
 
 #[cfg(test)]

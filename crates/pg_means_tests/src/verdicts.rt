@@ -1,4 +1,4 @@
-//! Verdicts on an automaton that says `a U b`, which can be told by hand, and the texts of two.
+//! Verdicts on an automaton that says `a U b`, which can be worked out by hand, and the texts of two of them.
 
 use pg_hoa::read_automaton;
 use pg_ltl::read_formula;
@@ -7,11 +7,11 @@ use pg_means_texts::{compare, write_compared};
 use std::alloc::Global;
 use std::test::Fail;
 
-/// A b, and a until then.
+/// There is a b, and a holds until then.
 const UNTIL: &[u8] =
     b"HOA: v1 Start: 0 AP: 2 \"a\" \"b\" Acceptance: 1 Inf(0) --BODY-- State: 0 [0&!1] 0 [1] 1 State: 1 [t] 1 {0} --END--";
 
-/// The verdict on the automaton and a formula, of which a and b are the propositions.
+/// Returns the verdict on the automaton and a formula whose propositions are a and b.
 fn verdict_on(alloc: Global, formula: &[u8]) -> Result<Verdict, Fail> {
     let automaton = read_automaton(alloc, UNTIL)?;
     let (_, formula) = read_formula(alloc, formula)?;
@@ -30,7 +30,7 @@ fn verdicts_are_right(rt: HostRuntime) -> Result<(), Fail> {
     Ok(())
 }
 
-/// The text of the verdict on the automaton and a formula.
+/// Returns the text of the verdict on the automaton and a formula.
 fn text_on(alloc: Global, formula: &[u8]) -> Result<Vec<u8>, Fail> {
     let compared = compare(alloc, UNTIL, formula)?;
     let mut output = Vec::new(alloc);
@@ -38,7 +38,7 @@ fn text_on(alloc: Global, formula: &[u8]) -> Result<Vec<u8>, Fail> {
     Ok(output)
 }
 
-/// On the words on which a always holds and no b comes they differ.
+/// The automaton and the formula differ on the words on which a always holds and b never comes.
 #[test]
 fn texts_are_compared(rt: HostRuntime) -> Result<(), Fail> {
     let same = text_on(rt.alloc(), b"b R (a | b) & F b")?;

@@ -1,4 +1,4 @@
--- What is found of the automaton that a text spells and the formula that another text spells.
+-- The verdict on the automaton that a text spells and the formula that another text spells.
 use Rattle.std.specs.Prelude.{◌≡◌, ℕ, ◌<◌, ◌≤◌, List, length}
 use Rattle.pg_hoa_automaton.specs.Automata.{Automaton}
 use Rattle.pg_hoa.specs.AutomatonText as hoa
@@ -17,8 +17,8 @@ pub record ArePaired (first second : List ℕ) (a : Automaton) (own : List (List
   pub spelt : hoa.Spelt first a
   pub read : ltl.Spelt second own f
 
--- The texts spell an automaton and a formula, and these are the names of all their propositions, 16 at most. Over words of these the
--- verdict says what is so: the automaton and the formula are the same, or a lasso on which they differ.
+-- The texts spell an automaton and a formula, and these are the names of all their propositions, at most 16. Over words of these
+-- propositions the verdict is true: the automaton and the formula are the same, or they differ on the lasso that it gives.
 pub record IsCompared (first second : List ℕ) (names : List (List ℕ)) (verdict : Verdict) : Type 0 where
   pub automaton : Automaton
   pub own : List (List ℕ)
@@ -30,13 +30,13 @@ pub record IsCompared (first second : List ℕ) (names : List (List ℕ)) (verdi
 
 -- ---- what is refused
 
--- the texts spell an automaton and a formula, the names of whose propositions are such
+-- the texts spell an automaton and a formula, and the names of all their propositions have the property P
 abbrev pub HaveNames : List ℕ → List ℕ → (List (List ℕ) → Type 0) → Type 0
 HaveNames first second P =
     (a : Automaton) × (own : List (List ℕ)) × (f : Formula) × ArePaired first second a own f × P (all_names a.propositions own)
 
--- Why two texts have no verdict: the first spells no automaton; it does, and the second spells no formula; they have too many propositions
--- together; or, where they haven't, no verdict was found. Memory may run out on each text.
+-- Why two texts have no verdict: the first spells no automaton; it spells one, but the second spells no formula; they have too many
+-- propositions together; or they don't, but no verdict was found. Memory may run out on any text.
 abbrev pub Refuses : List ℕ → List ℕ → CompareFault → Type 0
 Refuses first second (Hoa fault) = hoa.IsRefused first fault
 Refuses first second (faults.Formula fault) = ((a : Automaton) × hoa.Spelt first a) × ltl.IsRefused second fault

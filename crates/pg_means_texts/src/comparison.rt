@@ -11,10 +11,11 @@ use pg_ltl::read_formula;
 use pg_means::{Verdict, means};
 use std::alloc::Global;
 
-/// The most propositions that an automaton and a formula have together.
+/// The most propositions that an automaton and a formula may have together.
 pub(crate) const MOST_PROPOSITIONS: usize = 16;
 
-/// What is found of an automaton and a formula, and the names of all their propositions.
+/// The verdict on an automaton and a formula, and the names of all their propositions. Bit j of a letter of the verdict says whether the
+/// proposition `names[j]` holds.
 #[derive(Debug, Drop)]
 pub struct Compared {
     pub names: Vec<Vec<u8>>,
@@ -22,10 +23,10 @@ pub struct Compared {
     ghost round: { IsTrue (comes_round verdict) },
 }
 
-/// Whether the automaton that the first text spells accepts exactly the words that satisfy the formula that the second text spells.
-/// Propositions are tied by name.
+/// Decides whether the automaton that the first text spells accepts exactly the words that satisfy the formula that the second text
+/// spells. Propositions with the same name are the same.
 ///
-/// It returns the first of these faults: `Hoa`, `Formula`, `TooManyPropositions`, `Means`. Memory can run out at any point.
+/// Returns the first of these faults: `Hoa`, `Formula`, `TooManyPropositions`, `Means`. Memory can run out at any point.
 pub fn compare(alloc: Global, first: &[u8], second: &[u8]) -> Result<Compared, CompareFault>
     ensures compared { IfOk result (λ x. IsCompared first.now second.now (map (λ v. v.items) x.names.items) x.verdict) }
     ensures refused { IfErr result (Refuses first.now second.now) }

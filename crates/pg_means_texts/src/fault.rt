@@ -8,19 +8,19 @@ use pg_means::MeansFault;
 use std::alloc::AllocError;
 use thiserror::Error;
 
-/// Why there is no verdict on two texts. Where memory runs out the fault that it comes with says so.
+/// Why there is no verdict on two texts. If memory runs out, the fault inside says so.
 #[derive(Clone, Copy, Debug, PartialEq, Eq, Error)]
 pub enum CompareFault {
-    /// The first text spells no automaton.
+    /// The first text spells no automaton, or memory ran out while it was read.
     #[error("{0}")]
     Hoa(HoaFault),
-    /// The second text spells no formula.
+    /// The second text spells no formula, or memory ran out while it was read.
     #[error("{0}")]
     Formula(FormulaFault),
     /// The automaton and the formula have more than 16 propositions together.
     #[error("more than 16 propositions")]
     TooManyPropositions,
-    /// There is no verdict on the automaton and the formula.
+    /// There is no verdict on the automaton and the formula, or memory ran out.
     #[error("{0}")]
     Means(MeansFault),
 }

@@ -1,4 +1,4 @@
-//! The names of an automaton's and a formula's propositions together.
+//! The names of the propositions of an automaton and a formula together.
 
 ghost use Rattle.std.specs.Prelude.{◌≡◌, ◌≤◌, ◌<◌, length, map, IfOk};
 ghost use Rattle.pg_ltl.specs.Texts.{number_of, with_name};
@@ -7,7 +7,7 @@ ghost use Rattle.pg_means_texts.specs.Names.{all_names, places_of};
 use pg_hoa_automaton::Automaton;
 use std::alloc::{AllocError, Global};
 
-/// The number of a name: its place among those that are known, or how many these are.
+/// Returns the number of a name: its position among the known names, or their count if it isn't one of them.
 fn number_of(names: &[Vec<u8>], name: &[u8]) -> usize
     ensures value { result ≡ number_of name.now (map (λ v. v.items) names.now) }
     ensures within { result ≤ length names.now }
@@ -20,7 +20,7 @@ fn number_of(names: &[Vec<u8>], name: &[u8]) -> usize
     names.len()
 }
 
-/// The names of an automaton's propositions.
+/// Returns the names of an automaton's propositions.
 fn names_of(alloc: Global, automaton: &Automaton) -> Result<Vec<Vec<u8>>, AllocError>
     ensures { IfOk result (λ names. map (λ v. v.items) names.items ≡ automaton.now.propositions) }
 {
@@ -31,7 +31,7 @@ fn names_of(alloc: Global, automaton: &Automaton) -> Result<Vec<Vec<u8>>, AllocE
     Ok(names)
 }
 
-/// With this name, unless it is known.
+/// Returns the names, with this one appended if it is new.
 fn with_name(
     alloc: Global,
     mut names: Vec<Vec<u8>>,
@@ -46,7 +46,7 @@ fn with_name(
     Ok(names)
 }
 
-/// The names of an automaton's propositions, and behind them those of a formula's that the automaton lacks.
+/// Returns the names of an automaton's propositions, followed by those of a formula's propositions that the automaton lacks.
 pub(crate) fn all_names(
     alloc: Global,
     automaton: &Automaton,
@@ -62,7 +62,7 @@ pub(crate) fn all_names(
     Ok(names)
 }
 
-/// For each name its place among all.
+/// Returns for each of the formula's names its place among all names.
 pub(crate) fn places_of(
     alloc: Global,
     names: &[Vec<u8>],

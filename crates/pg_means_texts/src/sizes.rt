@@ -1,4 +1,4 @@
-//! How large the products are that a verdict on two texts rests on.
+//! The sizes of the products on which a verdict on two texts rests.
 
 use crate::comparison::MOST_PROPOSITIONS;
 use crate::fault::CompareFault;
@@ -8,8 +8,8 @@ use pg_ltl::read_formula;
 use pg_means::{ProductSizes, sizes};
 use std::alloc::Global;
 
-/// How large the products are of the automaton that the first text spells and the formula that the second text spells. The faults are
-/// those of `compare`.
+/// Returns the sizes of the products of the automaton that the first text spells and the formula that the second text spells. Its faults
+/// are those of `compare`.
 pub fn product_sizes(
     alloc: Global,
     first: &[u8],

@@ -9,7 +9,7 @@ use crate::comparison::Compared;
 use pg_means::Verdict;
 use std::io::{self, Write};
 
-/// Writes a name behind a blank, if the letter's lowest bit is set.
+/// Writes a blank and then the name, if the letter's lowest bit is set.
 fn write_marked<W: Write>(writer: &mut W, name: &[u8], letter: u32) -> io::Result<()>
     ensures { OnOk result (Appends (W.contents writer.old) (W.contents writer.new) (if letter % 2 == 1 then 32 ∷ name.now else [])) }
 {
@@ -20,7 +20,7 @@ fn write_marked<W: Write>(writer: &mut W, name: &[u8], letter: u32) -> io::Resul
     writer.write_all(name)
 }
 
-/// Writes the names of the propositions that hold at a letter, each behind a blank.
+/// Writes the names of the propositions that hold at a letter, each after a blank.
 fn write_more<W: Write>(writer: &mut W, names: &[Vec<u8>], letter: u32) -> io::Result<()>
     ensures { OnOk result (Appends (W.contents writer.old) (W.contents writer.new)
         (flat_map (λ name. 32 ∷ name) (holding (map (λ v. v.items) names.now) letter))) }
@@ -33,7 +33,7 @@ fn write_more<W: Write>(writer: &mut W, names: &[Vec<u8>], letter: u32) -> io::R
     Ok(())
 }
 
-/// Writes the names of the propositions that hold at a letter with blanks between, and `-` if none does.
+/// Writes the names of the propositions that hold at a letter, separated by blanks, or `-` if none holds.
 fn write_names<W: Write>(writer: &mut W, names: &[Vec<u8>], letter: u32) -> io::Result<()>
     ensures { OnOk result (Appends (W.contents writer.old) (W.contents writer.new)
         (spaced (holding (map (λ v. v.items) names.now) letter))) }
@@ -57,7 +57,7 @@ fn write_letter<W: Write>(writer: &mut W, names: &[Vec<u8>], letter: u32) -> io:
     writer.write_all(b"\n")
 }
 
-/// Writes the lines of letters.
+/// Writes the lines of some letters.
 fn write_letters<W: Write>(writer: &mut W, names: &[Vec<u8>], letters: &[u32]) -> io::Result<()>
     ensures { OnOk result (Appends (W.contents writer.old) (W.contents writer.new)
         (letter_lines (map (λ v. v.items) names.now) letters.now)) }
@@ -68,7 +68,7 @@ fn write_letters<W: Write>(writer: &mut W, names: &[Vec<u8>], letters: &[u32]) -
     Ok(())
 }
 
-/// The line that says which of the two takes a word.
+/// Returns the line that says whether the automaton accepts the word or the formula holds on it.
 fn taker(accepted: bool) -> &'static [u8]
     ensures { result.now ≡ taker accepted }
 {
@@ -79,7 +79,9 @@ fn taker(accepted: bool) -> &'static [u8]
     }
 }
 
-/// Writes what is found of an automaton and a formula: `SAME`, or `DIFFERS` and a word on which they differ.
+/// Writes the verdict on an automaton and a formula: `SAME`, or `DIFFERS` and a word on which they differ. For a word it writes a line
+/// that says which of the two takes it, a line with the names of the propositions that hold for each letter, and a line `loop` before the
+/// letters that repeat. Fails only if the writer does.
 pub fn write_compared<W: Write>(compared: &Compared, writer: &mut W) -> io::Result<()>
     ensures { OnOk result (Appends (W.contents writer.old) (W.contents writer.new)
         (verdict_text (map (λ v. v.items) compared.now.names.items) compared.now.verdict)) }

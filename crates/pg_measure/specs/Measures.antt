@@ -10,7 +10,7 @@ use Rattle.std.specs.Cmp.Lexicographic.{slice_cmp}
 abbrev pub BoundList : Type 0
 BoundList = List (ℕ × ℕ)
 
--- priorities are odd and fall, and of each there is a vertex
+-- priorities are odd and fall, and each has a vertex
 pub record AreBounds (bounds : BoundList) : Type 0 where
   pub odd : All (λ b. b.0 % 2 ≡ 1) bounds
   pub falling : AllPairs (λ b c. c.0 < b.0) bounds
@@ -20,14 +20,14 @@ pub record AreBounds (bounds : BoundList) : Type 0 where
 abbrev pub MeasureValue : Type 0
 MeasureValue = Option (List ℕ)
 
--- a component for each bound, and none above it
+-- a component for each bound, none of them above its bound
 abbrev pub ListFits : BoundList → List ℕ → Type 0
 ListFits [] [] = Unit {0}
 ListFits [] (x ∷ xs) = ⊥
 ListFits (b ∷ bounds) [] = ⊥
 ListFits (b ∷ bounds) (x ∷ xs) = (x ≤ b.1) × ListFits bounds xs
 
--- the measure is one of the measures of the bounds
+-- the measure is within the bounds
 abbrev pub Fits : BoundList → MeasureValue → Type 0
 Fits bounds None = Unit {0}
 Fits bounds (Some xs) = ListFits bounds xs
@@ -43,7 +43,7 @@ ListBelow [] (y ∷ ys) = Unit {0}
 ListBelow (x ∷ xs) [] = ⊥
 ListBelow (x ∷ xs) (y ∷ ys) = (x < y) ⊎ ((x ≡ y) × ListBelow xs ys)
 
--- the same, or the lists are equal
+-- the first list is less than the second in lexicographic order, or they are equal
 abbrev pub ListAtMost : List ℕ → List ℕ → Type 0
 ListAtMost [] ys = Unit {0}
 ListAtMost (x ∷ xs) [] = ⊥
@@ -68,19 +68,19 @@ measure_cmp None (Some ys) = Greater
 measure_cmp (Some xs) None = Less
 measure_cmp (Some xs) (Some ys) = slice_cmp nat_cmp xs ys
 
--- how many bounds are of a priority at least p
+-- how many bounds have a priority of at least p
 abbrev pub width_from : BoundList → ℕ → ℕ
 width_from bounds p = count_by (λ b. nat_le p b.0) bounds
 
--- the components of priorities at least p: priorities fall, so these are the first ones
+-- the components for priorities of at least p: because priorities fall, these are the first ones
 abbrev pub components_from : BoundList → ℕ → List ℕ → List ℕ
 components_from bounds p xs = take (width_from bounds p) xs
 
--- the same of a measure
+-- the components of a measure for priorities of at least p; top stays top
 abbrev pub measure_from : BoundList → ℕ → MeasureValue → MeasureValue
 measure_from bounds p m = option_map (components_from bounds p) m
 
--- m is top, or both are lists and m is at least n in the first `width` components, and more if `strict` is true
+-- m is top, or both are lists and m is at least n in the first `width` components, or greater there if `strict` is true
 abbrev pub CoversFront : Bool → ℕ → MeasureValue → MeasureValue → Type 0
 CoversFront strict width None n = Unit {0}
 CoversFront strict width (Some xs) None = ⊥
@@ -90,18 +90,18 @@ CoversFront strict width (Some xs) (Some ys) =
 abbrev pub is_odd : ℕ → Bool
 is_odd p = p % 2 == 1
 
--- m covers n at p: m is top, or both are lists and m is at least n in the components of priorities at least p,
--- and more if p is odd
+-- m covers n at p: m is top, or both are lists and m is at least n in the components for priorities of at least p, or greater there if p
+-- is odd
 abbrev pub Covers : BoundList → ℕ → MeasureValue → MeasureValue → Type 0
 Covers bounds p m n = CoversFront (is_odd p) (width_from bounds p) m n
 
--- r is the least measure of the bounds that covers m at p
+-- r is the least measure within the bounds that covers m at p
 pub record IsLeastStep (bounds : BoundList) (p : ℕ) (m r : MeasureValue) : Type 0 where
   pub fits : Fits bounds r
   pub covers : Covers bounds p r m
   pub least : (n : MeasureValue) → Fits bounds n → Covers bounds p n m → AtMost r n
 
--- A measure that owns its components, of which it has room for `width`, also at top.
+-- A measure that owns its components. It has room for `width` components, even if it is top.
 pub record OwnedMeasure : Type 0 where
   pub value : MeasureValue
   pub width : ℕ
@@ -109,6 +109,6 @@ pub record OwnedMeasure : Type 0 where
 abbrev pub owned : MeasureValue → ℕ → OwnedMeasure
 owned m n = record { value = m; width = n }
 
--- a list takes up the room
+-- a list takes up all of the room
 pub record IsOwned (m : OwnedMeasure) : Type 0 where
   pub length_is : (xs : List ℕ) → m.value ≡ Some xs → length xs ≡ m.width

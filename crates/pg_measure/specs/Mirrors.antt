@@ -1,4 +1,4 @@
--- What mirrors code: contracts of private functions cite it, and no definition that a reader has to believe does.
+-- Definitions that mirror code. Contracts of private functions cite them; no definition that a reader has to believe does.
 pub mod Rows
 pub mod Counts
 pub mod Widths

@@ -1,4 +1,4 @@
-//! Bounds of the components of measures.
+//! The bounds of the components of measures.
 
 ghost use Rattle.std.specs.Prelude.{◌≡◌, ℕ, ◌<◌, ◌≤◌, ◌^◌, List, length, IfOk};
 ghost use Rattle.pg_measure.specs.Measures.{AreBounds, width_from};
@@ -12,11 +12,11 @@ use pg_arena::{Game, Vertex};
 use std::alloc::{AllocError, Global};
 use std::marker::Model;
 
-/// For priorities below this one it is kept how many bounds are of a priority at least that.
+/// The most priorities for which `width_from` is looked up instead of computed.
 const AT_HAND: usize = 1024;
 
-/// The odd priorities of a game in falling order, each with the number of its vertices. Contracts see the list of these
-/// pairs.
+/// The odd priorities of a game in falling order, each with the number of its vertices. In contracts a value of this type is the list of
+/// these pairs.
 #[derive(Drop)]
 pub struct Bounds {
     pairs: Vec<(u32, u32)>,
@@ -35,7 +35,7 @@ impl Model for Bounds {
 }
 
 impl Bounds {
-    /// The bounds of a game: its odd priorities, each with the number of its vertices. Fails only if memory runs out.
+    /// Returns the bounds of a game: its odd priorities, each with the number of its vertices. Fails only if memory runs out.
     pub fn of(alloc: Global, game: &Game) -> Result<Bounds, AllocError>
         ensures { IfOk result (λ b. IsBoundsOf game.now b) }
     {
@@ -43,8 +43,8 @@ impl Bounds {
         Bounds::of_counts(alloc, &counts)
     }
 
-    /// The bounds of the dual of a game, without making the dual. No vertex of a dual has priority 0, and each other
-    /// priority has the vertices that have the priority below it in the game. Fails only if memory runs out.
+    /// Returns the bounds of the dual of a game, without building the dual. No vertex of a dual has priority 0, and each other priority
+    /// has the vertices that have the priority one below it in the game. Fails only if memory runs out.
     pub fn of_dual(alloc: Global, game: &Game) -> Result<Bounds, AllocError>
         ensures { IfOk result (λ b. IsBoundsOf (dual game.now) b) }
     {
@@ -53,7 +53,7 @@ impl Bounds {
         Bounds::of_counts(alloc, &counts)
     }
 
-    /// The bounds of each game whose vertices are counted so.
+    /// Returns the bounds of every game with these numbers of vertices for each priority.
     fn of_counts(alloc: Global, counts: &[u32]) -> Result<Bounds, AllocError>
         requires { length counts.now ≤ 2 ^ 32 }
         ensures { (game : List GameVertex) → IsCount game counts.now → IfOk result (λ b. IsBoundsOf game b) }
@@ -71,8 +71,8 @@ impl Bounds {
         Ok(Bounds { pairs, widths })
     }
 
-    /// The bounds with these pairs of a priority and its number of vertices. The priorities must be odd and fall, and
-    /// each must have a vertex. Fails only if memory runs out.
+    /// Returns the bounds with these pairs of a priority and its number of vertices. The priorities must be odd and fall, and each must
+    /// have a vertex. Fails only if memory runs out.
     pub fn from_pairs(alloc: Global, pairs: &[(u32, u32)]) -> Result<Bounds, AllocError>
         requires { AreBounds pairs.now }
         ensures { IfOk result (λ b. b ≡ pairs.now) }
@@ -86,7 +86,7 @@ impl Bounds {
         })
     }
 
-    /// The pairs of a priority and its number of vertices; the priorities are odd and fall.
+    /// Returns the pairs of a priority and its number of vertices. The priorities are odd and fall.
     pub fn pairs(&self) -> &[(u32, u32)]
         ensures value { result.now ≡ self.now }
         ensures bounds { AreBounds self.now }
@@ -94,7 +94,7 @@ impl Bounds {
         self.pairs.as_slice()
     }
 
-    /// The number of components for priorities at least `p`.
+    /// Returns the number of components for priorities of at least `p`.
     pub fn width_from(&self, p: u32) -> usize
         ensures value { result ≡ width_from self.now p }
         ensures within { result ≤ length self.now }
@@ -108,8 +108,8 @@ impl Bounds {
     }
 }
 
-/// How many bounds are of a priority at least each of the first ones: of those up to the greatest that has a bound and the
-/// next one, or of as many as are kept at hand.
+/// Returns for each of the first priorities how many bounds have at least that priority. The list covers the priorities up to the
+/// greatest one that has a bound and the one after it, but at most `AT_HAND` priorities.
 fn first_widths(alloc: Global, pairs: &[(u32, u32)]) -> Result<Vec<usize>, AllocError>
     requires { AreBounds pairs.now }
     ensures { IfOk result (λ w. AreWidths pairs.now w.items) }
@@ -122,7 +122,7 @@ fn first_widths(alloc: Global, pairs: &[(u32, u32)]) -> Result<Vec<usize>, Alloc
     Ok(widths)
 }
 
-/// How many vertices have each priority, up to the greatest.
+/// Returns for each priority up to the greatest how many vertices have it.
 fn priority_counts(alloc: Global, game: &Game) -> Result<Vec<u32>, AllocError>
     ensures counts { IfOk result (λ c. IsCount game.now c.items) }
     ensures few { IfOk result (λ c. length c.items ≤ 65537) }
@@ -135,7 +135,7 @@ fn priority_counts(alloc: Global, game: &Game) -> Result<Vec<u32>, AllocError>
     Ok(counts)
 }
 
-/// The greatest priority that occurs.
+/// Returns the greatest priority that occurs, or 0 in a game without vertices.
 fn greatest_priority(game: &Game) -> u32
     ensures above_all { (v : ℕ) → v < length game.now → priority game.now v ≤ result }
     ensures within { result ≤ 65536 }

@@ -1,4 +1,4 @@
-//! Laws about measures. Each function states one in its contract, and does nothing.
+//! Laws about measures. Each function's contract states a law, and its body does nothing.
 
 ghost use Rattle.pg_measure.specs.Laws.{OrderIsTotal, ComparingTellsOrder, ZerosAreLeast, ComponentsAreFirst, OneLeastStep, HasBounds, OneListOfBounds, BoundsAreFew};
 
@@ -12,17 +12,17 @@ pub fn comparing_tells_order()
     ensures { ComparingTellsOrder }
 {}
 
-/// Zeros are the least measure of any bounds.
+/// For any bounds, zeros are the least measure.
 pub fn zeros_are_least()
     ensures { ZerosAreLeast }
 {}
 
-/// The components for priorities at least `p` come first, since priorities fall.
+/// The components for priorities of at least `p` come first, because priorities fall.
 pub fn components_are_first()
     ensures { ComponentsAreFirst }
 {}
 
-/// Among the measures that cover a given one there is exactly one least.
+/// Among the measures that cover a given one there is only one least measure.
 pub fn one_least_step()
     ensures { OneLeastStep }
 {}
@@ -37,7 +37,7 @@ pub fn one_list_of_bounds()
     ensures { OneListOfBounds }
 {}
 
-/// A game whose priorities are at most 65,536 has at most 32,768 bounds, for priorities of at most 65,535.
+/// A game whose priorities are at most 65,536 has at most 32,768 bounds, and their priorities are at most 65,535.
 pub fn bounds_are_few()
     ensures { BoundsAreFew }
 {}

@@ -11,17 +11,17 @@ use std::alloc::{AllocError, Global};
 use std::cmp::Ordering;
 use std::marker::Model;
 
-/// A row of so many numbers, the mark among them, stands in the measure itself, and a longer one in memory of its own.
+/// A row of up to this many numbers, its mark included, is stored in the measure itself, and a longer one in memory of its own.
 const INLINE: usize = 4;
 
-/// Top, or a list of components. Contracts see the measure as `value`, and as `width` the number of components that it
-/// has room for, even if it is top.
+/// Top, or a list of components. In contracts `value` is the measure, and `width` the number of components that it has room for, even if
+/// it is top.
 #[derive(Drop)]
 pub struct Measure {
     row: SmallVec<u32, INLINE>,
 }
 
-/// A row with a number so many times.
+/// Returns a row of `count` equal numbers.
 fn row_of(alloc: Global, number: u32, count: usize) -> Result<SmallVec<u32, INLINE>, AllocError>
     ensures { IfOk result (λ r. r.items ≡ replicate count number) }
 {
@@ -44,7 +44,7 @@ impl Model for Measure {
 }
 
 impl Measure {
-    /// The least measure within the bounds, a zero for each of them. Fails only if memory runs out.
+    /// Returns the least measure within the bounds, which has a zero for each of them. Fails only if memory runs out.
     pub fn zero(alloc: Global, bounds: &Bounds) -> Result<Measure, AllocError>
         ensures { IfOk result (λ m. m ≡ owned (zeros bounds.now) (length bounds.now)) }
     {
@@ -52,7 +52,7 @@ impl Measure {
         Ok(Measure { row })
     }
 
-    /// Top, with room for a component for each of the bounds. Fails only if memory runs out.
+    /// Returns top, with room for a component for each of the bounds. Fails only if memory runs out.
     pub fn top(alloc: Global, bounds: &Bounds) -> Result<Measure, AllocError>
         ensures { IfOk result (λ m. m ≡ owned None (length bounds.now)) }
     {
@@ -60,7 +60,7 @@ impl Measure {
         Ok(Measure { row })
     }
 
-    /// The measure that is this list. Fails only if memory runs out.
+    /// Returns the measure with this list of components. Fails only if memory runs out.
     pub fn from_list(alloc: Global, list: &[u32]) -> Result<Measure, AllocError>
         ensures { IfOk result (λ m. m ≡ owned (Some list.now) (length list.now)) }
     {
@@ -70,7 +70,7 @@ impl Measure {
         Ok(Measure { row })
     }
 
-    /// The components, or None for top.
+    /// Returns the components, or `None` for top.
     pub fn list(&self) -> Option<&[u32]>
         ensures value { option_map (λ r. r.now) result ≡ self.now.value }
         ensures width { IsOwned self.now }
@@ -79,7 +79,7 @@ impl Measure {
         if row[0] != 0 { None } else { Some(&row[1..]) }
     }
 
-    /// The measure, borrowed.
+    /// Returns the measure, borrowed.
     pub fn view(&self) -> View<'_>
         ensures value { measure_in result ≡ self.now.value }
         ensures width { IsOwned self.now }
@@ -90,7 +90,7 @@ impl Measure {
         }
     }
 
-    /// Copies a borrowed measure into this one. A list must have exactly as many components as there is room for.
+    /// Copies a borrowed measure into this one. A list must have exactly as many components as this measure has room for.
     pub fn set(&mut self, m: View)
         requires { (xs : List ℕ) → measure_in m ≡ Some xs → length xs ≡ self.old.width }
         ensures { self.new ≡ owned (measure_in m.entry) self.old.width }
@@ -105,7 +105,7 @@ impl Measure {
         }
     }
 
-    /// Whether this measure is within the bounds: top, or a component for each bound, and none above its bound.
+    /// Whether this measure is within the bounds: top, or a list with a component for each bound, none of them above its bound.
     pub fn fits(&self, bounds: &Bounds) -> bool
         ensures { IsTrue result ↔ Fits bounds.now self.now.value }
     {
@@ -115,7 +115,7 @@ impl Measure {
         }
     }
 
-    /// Compares the components for priorities at least `p` in lexicographic order. Top is above every list.
+    /// Compares the components for priorities of at least `p` in lexicographic order. Top is above every list.
     pub fn order_from(&self, other: &Measure, p: u32, bounds: &Bounds) -> Ordering
         ensures { MatchOrdering result (IsBelow (measure_from bounds.now p self.now.value)
             (measure_from bounds.now p other.now.value))
@@ -131,7 +131,8 @@ impl Measure {
         }
     }
 
-    /// The least measure within the bounds that covers this one at `p`. Fails only if memory runs out.
+    /// Returns the least measure within the bounds that covers this one at `p`. This measure must be within the bounds. Fails only if
+    /// memory runs out.
     pub fn least_step(&self, p: u32, bounds: &Bounds) -> Result<Measure, AllocError>
         requires { Fits bounds.now self.now.value }
         ensures least { IfOk result (λ m. IsLeastStep bounds.now p self.now.value m.value) }

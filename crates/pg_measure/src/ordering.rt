@@ -1,4 +1,5 @@
-//! The order of measures: lists in lexicographic order, and top above every list. Tops are equal, whatever they have room for.
+//! The order of measures: lists in lexicographic order, and top above every list. Tops are equal, however many components they have room
+//! for.
 
 ghost use Rattle.std.specs.Prelude.{◌≡◌, ◌↔◌, refl, IsTrue};
 ghost use Rattle.std.specs.Cmp.{partial_equiv_from_equiv, eq_by_cmp_equiv, partial_order_from_total};

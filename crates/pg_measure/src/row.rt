@@ -1,14 +1,14 @@
-//! Measures kept in rows of numbers: a mark, 0 for a list and 1 for top, and then the components. The rows of a map
-//! stand in one table, so these functions take slices.
+//! Measures stored in rows of numbers: a mark, 0 for a list and 1 for top, followed by the components. The rows of a map are in one
+//! table, so these functions take slices.
 
 ghost use Rattle.std.specs.Prelude.{◌≡◌, ◌↔◌, ℕ, ◌+◌, ◌<◌, ◌≤◌, length, take, AllPairs, IsTrue, MatchBool};
 ghost use Rattle.pg_measure.specs.Measures.{ListFits, Fits, ListBelow, ListAtMost, CoversFront, width_from, AreBounds};
 ghost use Rattle.pg_measure.specs.Mirrors.Rows.{IsLeastCover, measure_of, cleared, FrontAtMost, MissesFront};
 
-/// As many numbers are compared one by one, before the rest is compared in strides: most measures differ early.
+/// This many numbers are compared one by one before the rest is compared in strides, because most measures differ early.
 const NEAR: usize = 16;
 
-/// How many bounds are of a priority at least `p`.
+/// Returns how many bounds have a priority of at least `p`. Their priorities must be odd and fall, and each must have a vertex.
 pub fn width_from(bounds: &[(u32, u32)], p: u32) -> usize
     requires { AreBounds bounds.now }
     ensures value { result ≡ width_from bounds.now p }
@@ -17,7 +17,7 @@ pub fn width_from(bounds: &[(u32, u32)], p: u32) -> usize
     bounds.partition_point(|b| b.0 >= p)
 }
 
-/// The first `width` numbers, or all where there are fewer.
+/// Returns the first `width` numbers, or all of them if there are fewer.
 pub fn first(list: &[u32], width: usize) -> &[u32]
     ensures { result.now ≡ take width list.now }
 {
@@ -28,7 +28,7 @@ pub fn first(list: &[u32], width: usize) -> &[u32]
     }
 }
 
-/// Whether a list has a component for each of the bounds, and none above it.
+/// Whether a list has a component for each of the bounds, none of them above its bound.
 pub fn fits(list: &[u32], bounds: &[(u32, u32)]) -> bool
     ensures { IsTrue result ↔ ListFits bounds.now list.now }
 {
@@ -43,7 +43,7 @@ pub fn fits(list: &[u32], bounds: &[(u32, u32)]) -> bool
     true
 }
 
-/// Sets every number from `from` on to 0.
+/// Sets every number from index `from` on to 0. `from` must be at most the row's length.
 pub fn clear_from(row: &mut [u32], from: usize)
     requires { from ≤ length row.old }
     ensures { row.new ≡ cleared from row.old }
@@ -53,7 +53,8 @@ pub fn clear_from(row: &mut [u32], from: usize)
     }
 }
 
-/// Makes the row the least measure of the bounds that covers it in the first `width` components.
+/// Changes the row to the least measure within the bounds that covers the row in its first `width` components, strictly if `strict`. A
+/// row at top stays as it is. The row must hold a measure within the bounds, and `width` must be at most their number.
 pub fn step(row: &mut [u32], bounds: &[(u32, u32)], width: usize, strict: bool)
     requires length { length row.old ≡ length bounds.now + 1 }
     requires width { width ≤ length bounds.now }
@@ -74,7 +75,7 @@ pub fn step(row: &mut [u32], bounds: &[(u32, u32)], width: usize, strict: bool)
     clear_from(row, at + 1);
 }
 
-/// Whether the first list is less than the second.
+/// Whether the first list is below the second in lexicographic order. Both must have the same length.
 pub fn is_below(a: &[u32], b: &[u32]) -> bool
     requires { length a.now ≡ length b.now }
     ensures { MatchBool result (ListBelow a.now b.now) (ListAtMost b.now a.now) }
@@ -91,7 +92,7 @@ pub fn is_below(a: &[u32], b: &[u32]) -> bool
     a[near..].cmp(&b[near..]).is_lt()
 }
 
-/// Whether the first row's first `width` components are less than the second's; top is above all.
+/// Whether the first row's first `width` components are below the second row's in lexicographic order. Top is above every list.
 #[inline(always)]
 pub fn is_front_below(a: &[u32], b: &[u32], width: usize) -> bool
     requires first { width < length a.now }
@@ -105,7 +106,7 @@ pub fn is_front_below(a: &[u32], b: &[u32], width: usize) -> bool
     is_below(&a[..width + 1], &b[..width + 1])
 }
 
-/// Whether the first row covers the second in the first `width` components.
+/// Whether the first row covers the second in the first `width` components, strictly if `strict`. Top covers every row.
 #[inline(always)]
 pub fn covers(a: &[u32], b: &[u32], width: usize, strict: bool) -> bool
     requires first { width < length a.now }

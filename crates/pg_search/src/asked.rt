@@ -4,7 +4,7 @@ use pg_search_rows::{Side, ZEROS, at, count, put};
 use std::alloc::{AllocError, Global};
 use std::mem;
 
-/// A claim that is asked for: of a vertex, that each closed map has at least this row there.
+/// A claim that is asked for: each closed map has at least this row at the vertex.
 #[derive(Clone, Copy)]
 pub(crate) struct Asked {
     pub vertex: u32,
@@ -13,7 +13,7 @@ pub(crate) struct Asked {
 
 #[derive(Drop)]
 pub(crate) struct Levels {
-    /// The odd priorities, rising, and what is asked for at each.
+    /// The odd priorities, in ascending order; `lists` has what is asked for at each.
     pub priorities: Vec<u32>,
     lists: Vec<Vec<Asked>>,
     /// The row that was last asked for at each vertex.
@@ -21,7 +21,7 @@ pub(crate) struct Levels {
 }
 
 impl Levels {
-    /// The levels of a side; nothing is asked for.
+    /// Returns the levels of a side, with nothing asked for.
     pub fn new(alloc: Global, side: &Side) -> Result<Levels, AllocError> {
         let mut priorities = Vec::new(alloc);
         for v in 0..side.len() {
@@ -43,7 +43,7 @@ impl Levels {
         })
     }
 
-    /// No levels: nothing can be asked for.
+    /// Returns no levels: nothing can be asked for.
     pub fn none(alloc: Global) -> Levels {
         Levels {
             priorities: Vec::new(alloc),
@@ -52,7 +52,7 @@ impl Levels {
         }
     }
 
-    /// Asks for a claim.
+    /// Asks for a claim, unless it was the last one asked for at its vertex.
     pub fn ask(&mut self, side: &Side, asked: Asked) -> Result<(), AllocError> {
         if at(&self.lasts, asked.vertex) == asked.row {
             return Ok(());
@@ -61,7 +61,7 @@ impl Levels {
         self.put(side.rows.node(asked.row).priority, asked)
     }
 
-    /// Asks for a vertex' row up to one component more than was asked for last, which is given.
+    /// Asks for a vertex's row up to one component more than in `last`, if that was asked for last.
     pub fn ask_next(&mut self, side: &Side, last: Asked) -> Result<(), AllocError> {
         let Asked { vertex, row } = last;
         if at(&self.lasts, vertex) != row {
@@ -71,7 +71,7 @@ impl Levels {
         self.ask(side, Asked { vertex, row })
     }
 
-    /// Puts a claim to a level, if there is one of that priority.
+    /// Adds a claim to the level of a priority, if there is one.
     pub fn put(&mut self, priority: u32, asked: Asked) -> Result<(), AllocError> {
         let level = self.priorities.partition_point(|it| *it < priority);
         if at(&self.priorities, count(level)) == priority && level < self.lists.len() {
@@ -80,7 +80,7 @@ impl Levels {
         Ok(())
     }
 
-    /// What is asked for at a level.
+    /// Returns the claims that are asked for at a level.
     pub fn asked(&self, level: u32) -> &[Asked] {
         match self.lists.get(level as usize) {
             Some(list) => list,
@@ -88,7 +88,7 @@ impl Levels {
         }
     }
 
-    /// Takes what is asked for at a level.
+    /// Takes out the claims that are asked for at a level, and returns them.
     pub fn take(&mut self, alloc: Global, level: u32) -> Vec<Asked> {
         if (level as usize) < self.lists.len() {
             mem::replace(&mut self.lists[level as usize], Vec::new(alloc))

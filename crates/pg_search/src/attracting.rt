@@ -1,4 +1,4 @@
-//! Claims that lead to earlier ones alone.
+//! Claims that lead to earlier claims alone.
 
 use pg_search_rows::{NONE, RowClaim, Side, ZEROS, at, is_marked, put};
 use std::alloc::{AllocError, Global};
@@ -6,7 +6,7 @@ use std::alloc::{AllocError, Global};
 #[derive(Drop)]
 struct Attracting<'m> {
     is_settled: &'m mut [bool],
-    /// How many successors of each vertex of the winner have to be claimed before it; `NONE` for one that could be lowered.
+    /// For each vertex of the winner, how many successors must be claimed before it; `NONE` if it could be lowered.
     left: Vec<u32>,
     /// The vertices whose rows are claimed, in order.
     order: Vec<u32>,
@@ -20,7 +20,7 @@ impl Attracting<'_> {
         Ok(())
     }
 
-    /// Claims a row that nothing is needed for. Else counts what is.
+    /// Claims the row of a vertex if that needs nothing, and else counts what it needs.
     fn begin(&mut self, side: &mut Side, v: u32) -> Result<(), AllocError> {
         let state = side.state(v);
         if state.row == ZEROS {
@@ -46,7 +46,7 @@ impl Attracting<'_> {
         Ok(())
     }
 
-    /// Claims rows that need no more than an earlier claim and those before it.
+    /// Claims the rows of the predecessors of `w` that need no more than the claim of `w` and those before it.
     fn go_back(&mut self, side: &mut Side, w: u32) -> Result<(), AllocError> {
         let row = side.row(w);
         for v in side.predecessors(w) {
@@ -70,8 +70,8 @@ impl Attracting<'_> {
     }
 }
 
-/// Claims of rows that lead to earlier ones alone, in their order. What isn't claimed isn't settled any more. No vertex is claimed that
-/// could be lowered: there are none but where lowering was cut short.
+/// Returns the claims of rows that lead to earlier claims alone, in their order. Vertices that aren't claimed are no longer settled, except
+/// those whose rows are zeros. No vertex is claimed that could be lowered: there are such vertices only where lowering was cut short.
 pub fn attract(
     side: &mut Side<'_>,
     alloc: Global,

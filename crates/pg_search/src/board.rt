@@ -1,7 +1,7 @@
-//! Games of claims: a node for each, which leads to the nodes of the claims that it needs.
+//! Games of claims: each claim has a node, which leads to the nodes of the claims that it needs.
 //!
-//! A claim needs claims of the successors of its vertex, those of all of them where the winner owns it, and of one else. Where the
-//! opponent wins the game its order shows the claims.
+//! A claim needs claims of the successors of its vertex: of all of them if the winner owns the vertex, and else of one. Where the opponent
+//! wins the game, its order shows the claims.
 
 use crate::asked::Asked;
 use pg_arena::Player;
@@ -10,7 +10,7 @@ use pg_search_winners::{Graph, Winners, find_winners};
 use std::alloc::{AllocError, Global};
 use std::mem;
 
-/// The nodes at which the opponent has won, and has lost.
+/// The node at which the opponent has won; at `LOST` it has lost.
 pub(crate) const WON: u32 = 0;
 
 pub(crate) const LOST: u32 = 1;
@@ -25,7 +25,7 @@ const NOTHING: Asked = Asked {
 
 #[derive(Drop)]
 pub(crate) struct Board {
-    /// The node of each vertex of which a claim is on the board, or `NONE`.
+    /// The node of each vertex with a claim on the board, or `NONE`.
     nodes: Vec<u32>,
     /// The claim of each node.
     claims: Vec<Asked>,
@@ -36,7 +36,7 @@ pub(crate) struct Board {
 }
 
 impl Board {
-    /// A board for claims of so many vertices.
+    /// Returns a board for claims of the vertices below `vertices`.
     pub fn new(alloc: Global, vertices: u32) -> Result<Board, AllocError> {
         Ok(Board {
             nodes: vec![in alloc; NONE; vertices as usize]?,
@@ -48,7 +48,7 @@ impl Board {
         })
     }
 
-    /// Takes all claims away.
+    /// Removes all claims, and makes the nodes `WON` and `LOST`.
     pub fn clear(&mut self) -> Result<(), AllocError> {
         for claim in &self.claims {
             put(&mut self.nodes, claim.vertex, NONE);
@@ -68,12 +68,12 @@ impl Board {
         count(self.claims.len())
     }
 
-    /// The claim of a node.
+    /// Returns the claim of a node.
     pub fn claim(&self, node: u32) -> Asked {
         item(&self.claims, node, NOTHING)
     }
 
-    /// The node of a claim, which is put to the board where none of its vertex is.
+    /// Returns the node of a claim's vertex, and puts the claim on the board if the vertex has none.
     pub fn node(&mut self, claim: Asked) -> Result<u32, AllocError> {
         let node = at(&self.nodes, claim.vertex);
         if node != NONE {
@@ -94,7 +94,7 @@ impl Board {
         Ok(())
     }
 
-    /// Lets it lead to a node.
+    /// Lets the node that was begun last lead to a node.
     #[inline(always)]
     pub fn lead_to(&mut self, node: u32) -> Result<(), AllocError> {
         self.targets.push(node)?;
@@ -110,7 +110,7 @@ impl Board {
         Ok(Played { graph, winners })
     }
 
-    /// The claims that are kept and that the opponent wins, in an order that shows them.
+    /// Returns the claims that are kept and that the opponent wins, in an order that shows them.
     pub fn order(
         &self,
         alloc: Global,
@@ -147,7 +147,7 @@ pub(crate) struct Played {
 }
 
 impl Played {
-    /// The nodes that those of the first claims, up to a node, lead to, where the opponent goes as it chose.
+    /// Returns which nodes are reached from those of the first claims, up to a node, if the opponent goes as it chose.
     pub fn kept(&self, alloc: Global, end: u32) -> Result<Vec<bool>, AllocError> {
         let mut is_kept = vec![in alloc; false; self.graph.len() as usize]?;
         let mut open = Vec::new(alloc);

@@ -11,7 +11,7 @@ struct Cut {
 }
 
 impl Cut {
-    /// Of a vertex that wasn't asked for yet.
+    /// The cut of a vertex that wasn't asked for yet.
     const UNKNOWN: Cut = Cut {
         row: NONE,
         priority: 0,
@@ -30,7 +30,7 @@ impl Cuts {
         })
     }
 
-    /// The row of a vertex without the components below a level, which is no less than those that were asked for before.
+    /// Returns the row of a vertex without the components below a level. The level is no less than those that were asked for before.
     #[inline(always)]
     pub fn row(&mut self, side: &Side, v: u32, level: u32) -> u32 {
         let cut = item(&self.cuts, v, Cut::UNKNOWN);

@@ -19,7 +19,7 @@ impl Way {
     };
 }
 
-/// For each node of a binary tree over the places the greatest way of those below it.
+/// A binary tree over the places; each node has the greatest way of the places below it.
 #[derive(Drop)]
 pub(crate) struct Greatest {
     leaves: u32,
@@ -27,7 +27,7 @@ pub(crate) struct Greatest {
 }
 
 impl Greatest {
-    /// No ways, at so many places.
+    /// Returns a tree without ways over the given number of places.
     pub fn new(alloc: Global, places: usize) -> Result<Greatest, AllocError> {
         let mut leaves = 1usize;
         for _ in 0..31 {
@@ -46,7 +46,7 @@ impl Greatest {
         item(&self.ways, node, Way::NOWHERE)
     }
 
-    /// Puts a way to a place.
+    /// Puts a way at a place, if it is greater than the way there.
     pub fn put(&mut self, rows: &Rows, place: u32, way: Way) {
         let mut node = self.leaves.saturating_add(place);
         for _ in 0..33 {
@@ -67,7 +67,7 @@ impl Greatest {
         }
     }
 
-    /// The greatest way from the places from one on and before another.
+    /// Returns the greatest way of the places from `from` on and before `to`.
     pub fn over(&self, rows: &Rows, from: u32, to: u32) -> Way {
         let mut low = self.leaves.saturating_add(from);
         let mut high = self.leaves.saturating_add(to);

@@ -1,11 +1,11 @@
 //! From a closed map to the least one, and claims of all its rows.
 //!
-//! First the vertices are claimed whose own rows lead to earlier claims alone. For the others there is one game of one claim for
-//! each, of its own row: what the opponent wins of it is settled, and the rows of the rest are set by levels. To show the rows of the
-//! rest it may have to choose otherwise for great components than for small ones. So they are claimed level by level, from the
-//! least on, each with the claims that it needs of the same level. It leads to claims of that level or of greater ones, whose rows are
-//! the first on the way to those of the successors that are enough; only those that the game's choices need are asked for. In the
-//! order of all the greatest level comes first.
+//! The first claims are of the vertices whose own rows lead to earlier claims alone. For the other vertices there is one game, with one
+//! claim for each, of its own row: the claims that the opponent wins are settled, and the rows of the rest are set by levels. To show the
+//! rows of the rest, the opponent may have to choose otherwise for great components than for small ones. So they are claimed level by
+//! level, from the least on, each claim with the claims of the same level that it needs. A claim leads to claims of its level or of greater
+//! ones. The rows of these are the first that are enough on the way to the rows of the successors; only claims that the game's choices need
+//! are asked for. In the order of all claims the greatest level comes first.
 
 use crate::asked::{Asked, Levels};
 use crate::attracting::attract;
@@ -15,7 +15,7 @@ use crate::leveling::set_by_levels;
 use pg_search_rows::{NONE, RowClaim, Side, ZEROS, at, count, is_marked, put};
 use std::alloc::{AllocError, Global};
 
-/// In place of a level: all of them, in the game of own rows.
+/// Stands for all levels, in the game of own rows.
 const ALL: u32 = NONE;
 
 /// A claim of another level that a node needs.
@@ -31,12 +31,12 @@ struct Justifying {
     is_settled: Vec<bool>,
     beyond: Vec<Beyond>,
     cuts: Cuts,
-    /// What a claim may lead to.
+    /// The claims that a claim may lead to.
     needed: Vec<Asked>,
 }
 
 impl Justifying {
-    /// The claims that aren't settled are open.
+    /// Begins with what is settled; all other claims are open.
     fn new(alloc: Global, side: &Side, is_settled: Vec<bool>) -> Result<Justifying, AllocError> {
         Ok(Justifying {
             board: Board::new(alloc, side.len())?,
@@ -47,7 +47,8 @@ impl Justifying {
         })
     }
 
-    /// Settles what the open claims of own rows show by themselves, which are given in their order. None where winners aren't found.
+    /// Settles what the open claims of own rows show without other claims, and returns these claims in their order. `None` if winners
+    /// aren't found.
     fn settle(
         &mut self,
         alloc: Global,
@@ -64,13 +65,13 @@ impl Justifying {
         Ok(Some(shown))
     }
 
-    /// Sets the least rows of what isn't settled. False where winners aren't found.
+    /// Sets the least rows of the vertices that aren't settled. Returns false if winners aren't found.
     fn set_rest(&mut self, alloc: Global, side: &mut Side) -> Result<bool, AllocError> {
         let open = unsettled(alloc, side, &self.is_settled)?;
         set_by_levels(side, alloc, &open, &self.is_settled, &mut self.board)
     }
 
-    /// What a claim of a level needs of a successor that isn't settled; nothing of one that hasn't such a row.
+    /// Returns the claim that a claim of a level needs of a successor that isn't settled, or `None` if the successor has no such row.
     #[inline(always)]
     fn need(&mut self, side: &Side, w: u32, low: u32, level: u32) -> Option<Asked> {
         let row = if level == ALL {
@@ -82,7 +83,7 @@ impl Justifying {
         Some(Asked { vertex: w, row })
     }
 
-    /// Lets the node of a claim lead to those of the claims of a level that it needs. They are put to the board.
+    /// Lets the node of a claim lead to the nodes of the claims of a level that it needs, and puts these claims on the board.
     fn lead(&mut self, side: &mut Side, node: u32, level: u32) -> Result<(), AllocError> {
         let claim = self.board.claim(node);
         let state = side.state(claim.vertex);
@@ -99,7 +100,7 @@ impl Justifying {
         }
     }
 
-    /// Lets it lead to those of all successors.
+    /// Lets a node lead to the claims of all successors.
     fn lead_to_all(
         &mut self,
         side: &Side,
@@ -133,8 +134,8 @@ impl Justifying {
         Ok(())
     }
 
-    /// Lets it lead to those of some successors: of one that lets it do without others of its level, if there is one; best one that is
-    /// settled.
+    /// Lets a node lead to the claims of some successors. If one of these needs no claim of the node's level, that one is enough: a settled
+    /// one first, and else one of another level.
     fn lead_to_some(
         &mut self,
         side: &Side,
@@ -175,8 +176,8 @@ impl Justifying {
         Ok(())
     }
 
-    /// Plays the game of some claims and of those of a level that they need. Gives what shows them, and asks for claims of other levels.
-    /// None where winners aren't found.
+    /// Plays the game of some claims and of the claims of a level that they need. Returns the claims that show them, and asks for claims of
+    /// other levels. `None` if winners aren't found.
     fn play(
         &mut self,
         alloc: Global,
@@ -210,7 +211,8 @@ impl Justifying {
         Ok(Some(self.board.order(alloc, &played.winners, &is_kept)?))
     }
 
-    /// The claims of what isn't settled, level by level; the greatest level first. None where winners aren't found.
+    /// Appends the claims of the vertices that aren't settled to `order`, level by level, the greatest level first. Returns false if
+    /// winners aren't found.
     fn play_levels(
         &mut self,
         alloc: Global,
@@ -237,7 +239,7 @@ impl Justifying {
     }
 }
 
-/// Claims of the own rows of the vertices that aren't settled.
+/// Returns claims of the own rows of the vertices that aren't settled.
 fn unsettled(alloc: Global, side: &Side, is_settled: &[bool]) -> Result<Vec<Asked>, AllocError> {
     let mut open = Vec::new(alloc);
     for vertex in 0..side.len() {
@@ -249,12 +251,13 @@ fn unsettled(alloc: Global, side: &Side, is_settled: &[bool]) -> Result<Vec<Aske
     Ok(open)
 }
 
-/// Whether a claim isn't of a level.
+/// Whether a claim isn't of the given level.
 fn is_beyond(side: &Side, asked: Asked, level: u32) -> bool {
     level != ALL && side.rows.node(asked.row).priority != level
 }
 
-/// The least rows, from a closed map, which may be the least one already; with claims of them. None where winners aren't found.
+/// Sets the least rows, from a closed map, which is the least one already if `is_least`. Returns claims of them, or `None` if winners
+/// aren't found.
 pub fn finish(
     side: &mut Side<'_>,
     alloc: Global,
@@ -288,7 +291,7 @@ pub fn finish(
     Ok(Some(order))
 }
 
-/// Lowers a closed map to the least one. False where winners aren't found.
+/// Lowers a closed map to the least one. Returns false if winners aren't found.
 pub fn lower_to_least(side: &mut Side<'_>, alloc: Global) -> Result<bool, AllocError> {
     let mut is_settled = vec![in alloc; true; side.len() as usize]?;
     attract(side, alloc, &mut is_settled)?;

@@ -10,12 +10,12 @@ pub(crate) struct Ladder {
     pub steps: Vec<u32>,
     /// The rank of each row that is in the ladder.
     ranks: Vec<u32>,
-    /// The rows that go on from each row, by rising priority of their last component.
+    /// The rows that go on from each row, in ascending order of the priority of their last component.
     children: Children,
 }
 
-/// The rows of the vertices, and those that have to be in a ladder with them: all that are on the way to one, and those with a last
-/// component that is less. They rise by their last priority and component.
+/// Returns the rows of the vertices, and those that must be in a ladder with them: all rows on the way to one of these, and those with a
+/// lesser last component. They are in ascending order of the priority of the last component, and then of that component.
 fn rows_in_use(alloc: Global, side: &Side) -> Result<Vec<u32>, AllocError> {
     let rows = &side.rows;
     let mut is_used = vec![in alloc; false; rows.len() as usize]?;
@@ -39,7 +39,7 @@ fn rows_in_use(alloc: Global, side: &Side) -> Result<Vec<u32>, AllocError> {
 }
 
 impl Ladder {
-    /// The ladder of all rows of a side.
+    /// Returns the ladder of all rows of a side.
     pub fn new(alloc: Global, side: &Side) -> Result<Ladder, AllocError> {
         let rows = &side.rows;
         let used = rows_in_use(alloc, side)?;
@@ -79,7 +79,7 @@ impl Ladder {
         Ok(())
     }
 
-    /// The rank of a row, or of top.
+    /// Returns the rank of a row, or of top.
     pub fn rank(&self, row: u32) -> u32 {
         if row == TOP {
             count(self.steps.len()).saturating_add(1)
@@ -88,7 +88,7 @@ impl Ladder {
         }
     }
 
-    /// The first of the greatest steps in the block of a priority that begins at a row; or `NONE`.
+    /// Returns the first of the greatest steps in the block of a priority that begins at a row, or `NONE`.
     pub fn hint(&self, rows: &Rows, row: u32, priority: u32) -> u32 {
         let children = self.children.targets(row);
         let end = children.partition_point(|it| rows.node(*it).priority < priority);

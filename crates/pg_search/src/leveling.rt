@@ -1,9 +1,10 @@
-//! The least rows of some vertices, where those of all others are known: by levels, which are the odd priorities. The greatest comes first.
+//! The least rows of some vertices, where the rows of all others are known: level by level, the greatest first. The levels are the odd
+//! priorities.
 //!
-//! The class of a vertex is its row above the level. Of a level are those vertices of no greater priority that come, within their
-//! class, to one of the level's priority, or to a known vertex with a component there. Values are given out in rounds, from 0 on: to known
-//! vertices that have that component, to what the winner comes there from, and to where it stays without the level's priority,
-//! which is a parity game. A vertex of the level's priority has its value a round after a successor.
+//! The class of a vertex is its row above the level. A level has the vertices of no greater priority that come, within their class, to a
+//! vertex of the level's priority or to a known vertex with a component there. Values are given out in rounds, from 0 on: to known vertices
+//! that have that component, to vertices from which the winner gets to these, and to vertices where it stays without the level's priority,
+//! which is a parity game. A vertex of the level's priority has its value one round after a successor.
 
 use crate::asked::{Asked, Levels};
 use crate::board::Board;
@@ -12,33 +13,35 @@ use pg_search_rows::{NONE, Side, ZEROS, at, count, is_marked, item, put};
 use std::alloc::{AllocError, Global};
 use std::mem;
 
-/// Of a part of the open vertices the winner chooses anew, where these come to a level.
+/// If more than one in this many open vertices come to a level, the winner chooses again.
 const PART: usize = 4;
 
-/// How a vertex without a value stands in a round, and that it has one.
+/// How a vertex stands in a round: how it is without a value, or `Done`.
 #[derive(Clone, Copy, PartialEq, Eq)]
 pub(crate) enum Standing {
-    /// Its row is known, and so will be its value.
+    /// Its row is known, and so is the value that it will have.
     Known,
-    /// The opponent comes from it to a vertex of the level's priority or to a known one.
+    /// The opponent gets from it to a vertex of the level's priority or to a known one.
     Rises,
-    /// It rises, and has its value in the next round.
+    /// It rises, and gets its value in the next round.
     Due,
-    /// It isn't known whether it rises any more.
+    /// It is no longer known whether it rises.
     Loose,
-    /// The opponent doesn't come there from it.
+    /// The opponent doesn't get from it to a vertex of the level's priority or to a known one.
     Stays,
+    /// It has its value.
     Done,
 }
 
-/// What is known of a vertex in the turn in which it was taken in last.
+/// What is known about a vertex in the turn in which it was last taken in.
 #[derive(Clone, Copy)]
 pub(crate) struct Member {
     turn: u32,
     pub class: u32,
-    /// How many successors of the class have no value.
+    /// How many of its successors in the class have no value.
     left: u32,
-    /// Of how many a loose one has to be known that they rise, so that it does; and by which one of the opponent's rises.
+    /// For a loose vertex, of how many more successors it must be known that they rise before it does; `to` is the successor by which a
+    /// vertex of the opponent rises.
     need: u32,
     to: u32,
     pub standing: Standing,
@@ -65,24 +68,24 @@ pub(crate) struct Leveling<'m> {
     is_settled: &'m [bool],
     pub board: &'m mut Board,
     members: Vec<Member>,
-    /// For each class the row of the greatest value that was given in it.
+    /// For each class, the row of the greatest value that was given in it.
     lasts: Vec<u32>,
     pub level: u32,
     /// How often a level was begun.
     turn: u32,
-    /// What part of the vertices may be of the levels that the winner chooses to stay without.
+    /// At most one in this many vertices may be of the levels that the winner chooses to stay without.
     pub part: usize,
     pub pause: Pause,
     value: u32,
-    /// The vertices of the level, known ones too; and how many have no value.
+    /// The vertices of the level, known ones too; `many` counts those without a value that aren't known.
     pub reached: Vec<u32>,
     many: u32,
     /// Known vertices whose component is greater than the value, the greatest first.
     known: Vec<Asked>,
-    /// What has its value, and those that lead to it weren't looked at; and what has it in the next round.
+    /// The vertices with a value whose predecessors weren't looked at yet; `later` has those that get their value in the next round.
     fresh: Vec<u32>,
     later: Vec<u32>,
-    /// What rose, and doesn't any more.
+    /// The vertices that rose, and no longer do.
     gone: Vec<u32>,
     loose: Vec<u32>,
     stays: Vec<u32>,
@@ -91,7 +94,7 @@ pub(crate) struct Leveling<'m> {
 }
 
 impl Leveling<'_> {
-    /// A vertex of the level and of a class that has no value.
+    /// Returns a vertex if it is of the level and of a class and has no value.
     #[inline(always)]
     fn left(&self, v: u32, class: u32) -> Option<Member> {
         let member = self.member(v);
@@ -114,7 +117,7 @@ impl Leveling<'_> {
         self.member(v).turn == self.turn
     }
 
-    /// Begins a level with what is asked for: vertices that are to have rows, and known ones.
+    /// Begins a level with the vertices that are asked for: those that need rows, and known ones.
     pub fn begin(&mut self, side: &Side, level: u32, asked: &[Asked]) -> Result<(), AllocError> {
         self.level = level;
         self.turn = self.turn.wrapping_add(1);
@@ -140,7 +143,7 @@ impl Leveling<'_> {
         Ok(())
     }
 
-    /// Takes a vertex in.
+    /// Takes in a vertex.
     pub fn reach(
         &mut self,
         side: &Side,
@@ -163,7 +166,7 @@ impl Leveling<'_> {
         Ok(())
     }
 
-    /// Takes in what comes, within its class, to what is there; but nothing that has the value 0 in any case.
+    /// Takes in the vertices that come, within their class, to those that are there, except those that have the value 0 in any case.
     pub fn go_back(&mut self, side: &mut Side) -> Result<(), AllocError> {
         for place in 0..usize::MAX {
             let Some(w) = self.reached.get(place).copied() else {
@@ -186,7 +189,7 @@ impl Leveling<'_> {
         Ok(())
     }
 
-    /// Finds what has a value without any other vertex of the level, and what is loose.
+    /// Finds the vertices that have a value without any other vertex of the level, and those that are loose.
     fn find_first(&mut self, side: &mut Side) -> Result<(), AllocError> {
         self.many = 0;
         for place in 0..count(self.reached.len()) {
@@ -224,7 +227,7 @@ impl Leveling<'_> {
         Ok(())
     }
 
-    /// Gives a vertex the value; one of the level's priority has it a round later.
+    /// Gives a vertex the value; a vertex of the level's priority gets it one round later.
     fn give(&mut self, side: &mut Side, v: u32) -> Result<(), AllocError> {
         let mut member = self.member(v);
         if member.standing == Standing::Rises && member.is_head {
@@ -250,7 +253,7 @@ impl Leveling<'_> {
         Ok(())
     }
 
-    /// The row of the value in a class.
+    /// Returns the row of the value in a class.
     fn row(&mut self, side: &mut Side, class: u32) -> Result<u32, AllocError> {
         let mut row = at(&self.lasts, class);
         let has = if row == class {
@@ -265,7 +268,7 @@ impl Leveling<'_> {
         Ok(row)
     }
 
-    /// Gives the value to what the winner comes from to what has it.
+    /// Gives the value to the vertices from which the winner gets to those that have it.
     fn spread(&mut self, side: &mut Side) -> Result<(), AllocError> {
         for place in 0..usize::MAX {
             let Some(w) = self.fresh.get(place).copied() else {
@@ -296,7 +299,7 @@ impl Leveling<'_> {
         Ok(())
     }
 
-    /// Finds what rose by what is gone.
+    /// Finds the vertices that rose by others that no longer do, and makes them loose.
     fn loosen(&mut self, side: &mut Side) -> Result<(), AllocError> {
         for _ in 0..u64::MAX {
             let Some(w) = self.gone.pop() else {
@@ -319,7 +322,7 @@ impl Leveling<'_> {
         Ok(())
     }
 
-    /// Finds what still rises of what is loose; the rest stays.
+    /// Finds which loose vertices still rise; the rest stay.
     fn raise(&mut self, side: &mut Side) -> Result<(), AllocError> {
         for place in 0..count(self.loose.len()) {
             let v = at(&self.loose, place);
@@ -361,7 +364,7 @@ impl Leveling<'_> {
         Ok(())
     }
 
-    /// Looks how a loose vertex could rise.
+    /// Finds how a loose vertex could rise.
     fn look_up(&mut self, side: &mut Side, v: u32) -> Result<(), AllocError> {
         let mut member = self.member(v);
         if member.standing != Standing::Loose {
@@ -389,7 +392,8 @@ impl Leveling<'_> {
         Ok(())
     }
 
-    /// Plays the game of what stays: what the winner wins has the value. False where its winners aren't found.
+    /// Plays the game of the vertices that stay: those that the winner wins have the value. Returns false if the game's winners aren't
+    /// found.
     fn play(&mut self, alloc: Global, side: &mut Side) -> Result<bool, AllocError> {
         self.board.clear()?;
         let stays = mem::replace(&mut self.stays, Vec::new(alloc));
@@ -431,7 +435,7 @@ impl Leveling<'_> {
         Ok(played.winners.is_ordered)
     }
 
-    /// The least component of a known vertex that has no value yet, or `NONE`.
+    /// Returns the least component of a known vertex that has no value yet, or `NONE`.
     fn next_value(&self, side: &Side) -> u32 {
         match self.known.last() {
             Some(it) => side.rows.node(it.row).component,
@@ -439,7 +443,7 @@ impl Leveling<'_> {
         }
     }
 
-    /// The rounds of a level. False where they end too early.
+    /// Goes through the rounds of a level. Returns false if they end too early.
     fn run(&mut self, alloc: Global, side: &mut Side) -> Result<bool, AllocError> {
         self.find_first(side)?;
         for _ in 0..u64::MAX {
@@ -477,8 +481,8 @@ impl Leveling<'_> {
     }
 }
 
-/// Lowers the rows of some vertices to the least ones, where those of all others that the winner wins are, which are settled. The map is
-/// closed. False where winners aren't found.
+/// Lowers the rows of some vertices to the least ones. All other vertices that the winner wins are settled: their rows are the least. The
+/// map is closed. Returns false if winners aren't found.
 pub fn set_by_levels(
     side: &mut Side<'_>,
     alloc: Global,

@@ -1,5 +1,5 @@
-//! The search for least maps: ladders, ranks, and claims that show them. Nothing is promised of what is found but that it is found
-//! safely and in the end: who wants to believe it has it certified.
+//! The search for least maps: ladders, ranks, and claims that show them. Nothing is promised about the result except that the search is
+//! safe and ends. Whoever relies on the result has it certified.
 #![tactic(auto)]
 
 mod asked;

@@ -1,12 +1,12 @@
-//! Games whose priorities all have one parity. That player wins everywhere, and both maps are known at once: zeros of the winner, and
-//! top of the loser.
+//! Games whose priorities all have the same parity. The player of that parity wins everywhere, and both maps are known at once: zeros for
+//! the winner, and top for the loser.
 
 use pg_arena::{Game, Vertex};
 use pg_map_claims::{Claim, Claims, Proposal, Proposals, Span};
 use pg_search_rows::{count, put};
 use std::alloc::{AllocError, Global};
 
-/// The parity of all priorities, if they have one.
+/// Returns the parity of all priorities, if they share one.
 fn parity_of(game: &Game) -> Option<u32> {
     let mut parity = None;
     for number in 0..game.len() as u32 {
@@ -26,8 +26,8 @@ struct Ordered {
     priority: u32,
 }
 
-/// Claims of top everywhere, each of which may lead to all. Those of greater priorities stand first: so where all are Odd's, Odd wins the
-/// cycles.
+/// Returns claims of top everywhere, each of which may lead to all. Claims of vertices of greater priorities come first: so where all are
+/// Odd's, Odd wins the cycles.
 fn claims_of_top(alloc: Global, game: &Game) -> Result<Claims, AllocError> {
     let mut order = Vec::with_capacity(alloc, game.len())?;
     for vertex in 0..game.len() as u32 {
@@ -59,7 +59,7 @@ fn claims_of_top(alloc: Global, game: &Game) -> Result<Claims, AllocError> {
     })
 }
 
-/// The map that has one rank everywhere.
+/// Returns the map that has one rank everywhere.
 fn everywhere(alloc: Global, game: &Game, rank: u32) -> Result<Proposal, AllocError> {
     Ok(Proposal {
         steps: Vec::new(alloc),
@@ -73,8 +73,8 @@ fn everywhere(alloc: Global, game: &Game, rank: u32) -> Result<Proposal, AllocEr
     })
 }
 
-/// The maps of such a game and of its dual; where that is asked for claims show top. In a ladder without steps zeros have rank 0, and top
-/// has rank 1.
+/// Returns the maps of such a game and of its dual, or `None` for any other game. Claims show top if `with_tops` asks for that. In a ladder
+/// without steps, zeros have rank 0 and top has rank 1.
 pub(crate) fn propose_at_once(
     alloc: Global,
     game: &Game,

@@ -10,18 +10,18 @@ use pg_search_rows::{NONE, RowClaim, Side, TOP, ZEROS, at, count, put};
 use pg_search_winners::{Graph, find_winners};
 use std::alloc::{AllocError, Global};
 
-/// How often lowering and ways may look at each vertex and edge, and how often at few.
+/// How often lowering and ways may look at each vertex and edge; `LOOKS_OF_FEW` is how much more often in all.
 const LOOKS: u64 = 64;
 
 const LOOKS_OF_FEW: u64 = 1 << 20;
 
-/// How often lowering and ways may look at a graph.
+/// Returns how often lowering and ways may look at a graph.
 pub(crate) fn most_looks(graph: &Graph) -> u64 {
     let size = u64::from(graph.len()).saturating_add(u64::from(graph.edges()));
     size.saturating_mul(LOOKS).saturating_add(LOOKS_OF_FEW)
 }
 
-/// The map of a game alone: claims show top as well. None where the search gives up.
+/// Proposes the map of a game alone, with claims that show top as well. `None` if the search gives up. Fails only if memory runs out.
 pub fn propose_measure(alloc: Global, game: &Game) -> Result<Option<Proposal>, AllocError> {
     if let Some(Proposals { of_game, .. }) = propose_at_once(alloc, game, true)? {
         return Ok(Some(of_game));
@@ -43,7 +43,8 @@ pub fn propose_measure(alloc: Global, game: &Game) -> Result<Option<Proposal>, A
     propose_for(alloc, &graph.into_priorities(), &region, tops)
 }
 
-/// The maps of a game and of its dual. Top isn't claimed: it is known from the other map. None where the search gives up.
+/// Proposes the maps of a game and of its dual. Top isn't claimed: it is known from the other map. `None` if the search gives up. Fails
+/// only if memory runs out.
 pub fn propose(alloc: Global, game: &Game) -> Result<Option<Proposals>, AllocError> {
     if let Some(known) = propose_at_once(alloc, game, false)? {
         return Ok(Some(known));
@@ -67,7 +68,8 @@ pub fn propose(alloc: Global, game: &Game) -> Result<Option<Proposals>, AllocErr
     Ok(Some(Proposals { of_game, of_dual }))
 }
 
-/// The map of a player, which has top outside of its region, in a game of these priorities. Claims of that, if there are any, come first.
+/// Proposes the map of a player in a game of these priorities; it has top outside of the player's region. Claims of top, if there are any,
+/// come first.
 fn propose_for(
     alloc: Global,
     priorities: &[u32],
@@ -128,7 +130,7 @@ fn write(
     })
 }
 
-/// The claims vertex by vertex, with their ranks. Those of one vertex stand in the order in which they rise.
+/// Returns the claims vertex by vertex, with their ranks. Claims of one vertex are in the order in which they rise.
 fn rank_claims(
     alloc: Global,
     priorities: &[u32],
@@ -168,7 +170,7 @@ fn rank_claims(
     let mut spans = Vec::with_capacity(alloc, listed.len())?;
     for (place, it) in listed.iter().enumerate() {
         let priority = at(priorities, it.vertex).saturating_add(player);
-        // what the winner owns may lead to itself, where that is to its harm
+        // a vertex of the winner may lead to itself, where that is to the winner's harm
         let span = it.span.max(priority % 2);
         let end = count(place).saturating_add(span);
         spans.push(Span { priority, end })?;

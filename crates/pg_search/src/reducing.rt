@@ -1,9 +1,9 @@
 //! A lesser game with the same least rows.
 //!
 //! A vertex that leads to one vertex alone often counts for nothing where it is reached: its priority is less than that of the vertex
-//! before it, or it is the winner's and no greater than that of the vertex behind it. Then an edge to it passes it, and leads to the vertex
-//! behind it. So most of these vertices have nothing left that leads to them. Such vertices are taken out, one after the other: their rows
-//! follow from those of where they lead.
+//! before it, or its priority is the winner's and no greater than that of the vertex after it. Then an edge to it passes it, and leads to
+//! the vertex after it. So nothing leads to most of these vertices any more. Such vertices are taken out, one after another: their rows
+//! follow from the rows of the vertices that they lead to.
 
 use crate::proposal::most_looks;
 use pg_arena::Player;
@@ -12,7 +12,7 @@ use pg_search_rows::{NONE, Side, at, count, put};
 use pg_search_winners::Graph;
 use std::alloc::{AllocError, Global};
 
-/// How many vertices an edge may pass.
+/// The most vertices that an edge may pass.
 const FAR: u32 = 16;
 
 #[derive(Drop)]
@@ -20,16 +20,16 @@ pub(crate) struct Reduced {
     pub graph: Graph,
     /// What the winner chooses at each vertex of its own.
     choices: Vec<u32>,
-    /// The vertex of the whole side of each vertex that is left.
+    /// The vertex of the whole side for each vertex that is left.
     vertices: Vec<u32>,
-    /// Where each vertex of the whole side leads, as edges pass vertices.
+    /// Where each vertex of the whole side leads, once edges pass vertices.
     edges: Rows,
     /// The vertices that were taken out, in order.
     out: Vec<u32>,
 }
 
 impl Reduced {
-    /// The lesser game of a side.
+    /// Returns the lesser game of a side.
     pub fn of(alloc: Global, side: &Side) -> Result<Reduced, AllocError> {
         let edges = edges_of(alloc, side)?;
         let mut degrees = vec![in alloc; 0; side.len() as usize]?;
@@ -60,18 +60,18 @@ impl Reduced {
         })
     }
 
-    /// Whether it has so few vertices that it saves time.
+    /// Whether the lesser game has so few vertices that it saves time.
     pub fn is_small(&self, whole: &Side) -> bool {
         self.graph.len() / 3 < whole.len() / 4
     }
 
-    /// Its side, with zeros everywhere.
+    /// Returns the side of the lesser game, with zeros everywhere.
     pub fn side(&self, alloc: Global, whole: &Side) -> Result<Side<'_>, AllocError> {
         let most = most_looks(&self.graph);
         Side::new(alloc, &self.graph, whole.player, &self.choices, most)
     }
 
-    /// Gives the whole side the least rows, from those of the lesser one.
+    /// Gives the whole side the least rows, from the rows of the lesser side.
     pub fn extend(&self, lesser: Side, whole: &mut Side) -> Result<(), AllocError> {
         for (number, v) in self.vertices.iter().enumerate() {
             whole.set_row(*v, lesser.row(count(number)));
@@ -84,7 +84,7 @@ impl Reduced {
         Ok(())
     }
 
-    /// Sets the row of a vertex that was taken out by those of where it leads.
+    /// Sets the row of a vertex that was taken out, from the rows of the vertices that it leads to.
     fn set_row(&self, whole: &mut Side, v: u32) -> Result<(), AllocError> {
         let state = whole.state(v);
         let successors = self.edges.targets(v);
@@ -106,7 +106,7 @@ impl Reduced {
     }
 }
 
-/// Where each vertex leads, as edges pass vertices.
+/// Returns where each vertex leads, once edges pass vertices.
 fn edges_of(alloc: Global, side: &Side) -> Result<Rows, AllocError> {
     let mut edges = Rows::with_capacity(alloc, side.len() as usize)?;
     for v in 0..side.len() {
@@ -123,7 +123,7 @@ fn edges_of(alloc: Global, side: &Side) -> Result<Rows, AllocError> {
     Ok(edges)
 }
 
-/// Where an edge leads, past vertices that count for nothing.
+/// Returns where an edge leads, past vertices that count for nothing.
 fn pass(side: &Side, v: u32, w: u32) -> u32 {
     let before = side.state(v).priority();
     let mut to = w;
@@ -143,7 +143,7 @@ fn pass(side: &Side, v: u32, w: u32) -> u32 {
     to
 }
 
-/// Takes out vertices to which nothing leads, one after the other. Gives them in order.
+/// Takes out vertices to which nothing leads, one after another. Returns them in order.
 fn take_out(alloc: Global, edges: &Rows, degrees: &mut [u32]) -> Result<Vec<u32>, AllocError> {
     let mut out = Vec::new(alloc);
     for v in 0..count(degrees.len()) {
@@ -166,7 +166,7 @@ fn take_out(alloc: Global, edges: &Rows, degrees: &mut [u32]) -> Result<Vec<u32>
     Ok(out)
 }
 
-/// The graph of some vertices, with the edges among them.
+/// Returns the graph of some vertices, with the edges among them.
 fn draw(
     alloc: Global,
     whole: &Graph,

@@ -1,20 +1,20 @@
-//! What a player wins, as a game of its own: other vertices and edges decide nothing of the player's measures.
+//! The part of a game that a player wins, as a game of its own: other vertices and edges decide nothing of the player's measures.
 //!
-//! Where the opponent gets to its own priorities from few vertices, the game has only these. All others have zeros, since the player can
-//! stay among them; one of them stands there for all.
+//! If the opponent gets to its own priorities from few vertices, the game has only these. All others have zeros, since the player can stay
+//! among them; one of them stands for all.
 
 use pg_arena::Player;
 use pg_search_rows::{NONE, at, count, put};
 use pg_search_winners::{Graph, Winners};
 use std::alloc::{AllocError, Global};
 
-/// Few are those that are found by looks at this part of the vertices and edges.
+/// Vertices are few if they are found by looks at no more than one in this many vertices and edges.
 const FEW: u64 = 16;
 
 /// The number of the vertex that stands for those with zeros.
 const GROUND: u32 = 0;
 
-/// The vertices that a player wins, numbered in the order that shows it. So edges mostly lead to numbers nearby.
+/// The vertices that a player wins, numbered in the order that shows it, so that edges mostly lead to numbers nearby.
 #[derive(Drop)]
 pub(crate) struct Region {
     /// Even is 0, Odd is 1.
@@ -68,7 +68,7 @@ impl Region {
     }
 }
 
-/// The numbers of what a player wins, as they are given out.
+/// The numbers of the vertices that a player wins, as they are given out.
 #[derive(Drop)]
 struct Numbering<'a> {
     whole: &'a Graph,
@@ -79,7 +79,7 @@ struct Numbering<'a> {
 }
 
 impl<'a> Numbering<'a> {
-    /// No vertex has a number yet but that of the one that stands for all.
+    /// Gives each vertex that the player wins the number of the one that stands for all; no vertex has a number of its own yet.
     fn new(
         alloc: Global,
         whole: &'a Graph,
@@ -102,7 +102,7 @@ impl<'a> Numbering<'a> {
         })
     }
 
-    /// Numbers all that the player won.
+    /// Numbers all vertices that the player won.
     fn number_all(&mut self, won: &[u32]) -> Result<(), AllocError> {
         for (number, v) in won.iter().enumerate() {
             put(&mut self.numbers, *v, count(number));
@@ -111,7 +111,7 @@ impl<'a> Numbering<'a> {
         self.vertices.extend_from_slice(won)
     }
 
-    /// Numbers the vertices from which the opponent gets to one of its own priorities; false where they aren't few, or are all.
+    /// Numbers the vertices from which the opponent gets to one of its own priorities. Returns false if they aren't few, or are all.
     fn number_rising(&mut self, won: &[u32]) -> Result<bool, AllocError> {
         for v in won {
             if self.whole.priority(*v) % 2 != self.player {
@@ -142,7 +142,7 @@ impl<'a> Numbering<'a> {
         self.looks > size / FEW
     }
 
-    /// Whether the player won a vertex, and it has no number of its own.
+    /// Whether the player won a vertex that has no number of its own.
     #[inline(always)]
     fn is_ground(&self, v: u32) -> bool {
         at(&self.numbers, v) == GROUND
@@ -155,7 +155,7 @@ impl<'a> Numbering<'a> {
         Ok(())
     }
 
-    /// Numbers the predecessors of a vertex from which the opponent gets there.
+    /// Numbers the predecessors of a vertex from which the opponent gets to it.
     fn number_predecessors(&mut self, w: u32) -> Result<(), AllocError> {
         let whole = self.whole;
         for v in whole.predecessors(w) {

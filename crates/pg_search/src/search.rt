@@ -1,7 +1,7 @@
 //! The search for the least map of a side: from below by lifting where that is short, and else from above.
 //!
 //! From above: the map of a winning strategy is closed. It is lowered where a successor gives less, until none does, or until that takes
-//! too long. What is too great then holds itself up: it is set by levels. All this is done for a lesser game, where there is one.
+//! too long. Rows that are still too great hold each other up: they are set by levels. All this is done for a lesser game, if there is one.
 
 use crate::exact::set_exactly;
 use crate::justifying::{finish, lower_to_least};
@@ -10,7 +10,7 @@ use crate::ways::Ways;
 use pg_search_rows::{NONE, RowClaim, Side};
 use std::alloc::{AllocError, Global};
 
-/// The least rows of the vertices that the winner wins, as it chooses; with claims of them. None where winners aren't found.
+/// Finds the least rows of the vertices that the winner wins with these choices. Returns claims of them, or `None` if winners aren't found.
 pub fn find(
     side: &mut Side<'_>,
     alloc: Global,
@@ -24,7 +24,7 @@ pub fn find(
         return find_reduced(side, alloc);
     }
     if side.sweep(alloc)? {
-        // the map of the strategy is the least one then
+        // then the map of the strategy is the least one
         return finish(side, alloc, true);
     }
     side.clear(alloc)?;
@@ -40,7 +40,8 @@ pub fn find(
     finish(side, alloc, true)
 }
 
-/// The same where the winner has a choice: rows are found for a lesser game, if there is one that is much less.
+/// Finds the least rows where the winner has a choice: those of a lesser game first, if there is one that is much less. Returns claims of
+/// them, or `None` if winners aren't found.
 fn find_reduced(side: &mut Side<'_>, alloc: Global) -> Result<Option<Vec<RowClaim>>, AllocError> {
     let reduced = Reduced::of(alloc, side)?;
     if !reduced.is_small(side) {

@@ -1,9 +1,9 @@
 //! Strategies that shun levels.
 //!
-//! Where many vertices come to a level as the winner chooses, it plays a game on all that comes to that level or to one of the next. There
-//! it loses at vertices that have one of their priorities. Where it wins it chooses as it won: it stays in the class without any of the levels,
-//! or leaves it. So these vertices have the component 0 at each of the levels, and need no look there. The more levels the fewer such
-//! vertices: where most are lost the next game is of fewer levels.
+//! Where many vertices come to a level with the winner's choices, the winner plays a game on all vertices that come to that level or to one
+//! of the next. In this game it loses at the vertices that have one of the levels' priorities. Where it wins, it chooses as it won: it
+//! stays in the class without any of the levels, or leaves the class. So these vertices have the component 0 at each of the levels, and
+//! need no look there. The more levels, the fewer such vertices: where most are lost, the next game has fewer levels.
 
 use crate::asked::{Asked, Levels};
 use crate::board::{FIRST, LOST, WON};
@@ -11,10 +11,11 @@ use crate::leveling::{Leveling, Standing};
 use pg_search_rows::{Side, at, count};
 use std::alloc::{AllocError, Global};
 
-/// Of how many vertices one may be of the levels, at most.
+/// At most one in this many vertices may be of the levels.
 pub(crate) const FEW: usize = 256;
 
-/// How many levels the winner chooses nothing at after that was of no use, and how many of them are left. Each time it is twice as many.
+/// For how many levels the winner keeps its choices after choosing again was of no use, and how many of these are left. Each time there are
+/// twice as many, and one more.
 #[derive(Clone, Copy)]
 pub(crate) struct Pause {
     long: u32,
@@ -34,7 +35,7 @@ impl Pause {
 }
 
 impl Leveling<'_> {
-    /// Lets the winner choose anew, until few vertices come to a level, which then begins again.
+    /// Lets the winner choose again until few vertices come to a level, which then begins again.
     pub fn shun(
         &mut self,
         alloc: Global,
@@ -70,7 +71,7 @@ impl Leveling<'_> {
         Ok(())
     }
 
-    /// Takes in what comes to a level and to the next ones, which are to have few vertices.
+    /// Takes in the vertices that come to a level and to the next ones, as long as the levels have few vertices.
     fn take_levels(
         &mut self,
         side: &mut Side,
@@ -90,7 +91,7 @@ impl Leveling<'_> {
         self.go_back(side)
     }
 
-    /// Takes in what is asked for at a level.
+    /// Takes in the vertices that are asked for at a level.
     fn take_level(&mut self, side: &Side, asked: &[Asked]) -> Result<(), AllocError> {
         for it in asked {
             if !self.is_in(it.vertex) {
@@ -102,7 +103,7 @@ impl Leveling<'_> {
         Ok(())
     }
 
-    /// Lets the winner choose as it wins without the levels that were taken in.
+    /// Lets the winner choose as it wins the game without the levels that were taken in.
     fn choose_anew(&mut self, alloc: Global, side: &mut Side) -> Result<(), AllocError> {
         self.board.clear()?;
         for place in 0..count(self.reached.len()) {
@@ -127,7 +128,7 @@ impl Leveling<'_> {
         Ok(())
     }
 
-    /// Lets the node of a vertex lead to those of its successors in the class.
+    /// Lets the node of a vertex lead to the nodes of its successors in the class.
     fn lead(&mut self, side: &mut Side, node: u32) -> Result<(), AllocError> {
         let Asked { vertex, row } = self.board.claim(node);
         let state = side.state(vertex);

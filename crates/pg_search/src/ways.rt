@@ -4,7 +4,7 @@ use crate::greatest::Way;
 use pg_search_rows::{NONE, RowClaim, Side, ZEROS, at, item, put};
 use std::alloc::{AllocError, Global};
 
-/// A component in an order: where it begins, how many heads stand first, and before which place it ends.
+/// A component in an order: the place where it begins, how many heads come first, and the place before which it ends.
 #[derive(Clone, Copy)]
 pub(crate) struct Part {
     pub begin: u32,
@@ -15,13 +15,13 @@ pub(crate) struct Part {
 /// How a vertex was found.
 #[derive(Clone, Copy)]
 struct Found {
-    /// The part in which it was last found from behind, and where the way out goes on from it.
+    /// The part in which it was last found on the search back; `next` is where the way out goes on from it.
     part: u32,
     next: u32,
-    /// The turn in which it was last found from before, and the vertex from which.
+    /// The turn in which it was last found on the search forward; `before` is the vertex that it was found from.
     turn: u32,
     before: u32,
-    /// The row of it that was last claimed.
+    /// Its row that was claimed last.
     row: u32,
 }
 
@@ -35,7 +35,7 @@ impl Found {
     };
 }
 
-/// A search from both ends: on from a head, and back from the way out.
+/// A search from both ends: forward from a head, and back from the way out.
 #[derive(Drop)]
 pub(crate) struct Ways {
     part: Part,
@@ -44,7 +44,7 @@ pub(crate) struct Ways {
     turn: u32,
     fore: Vec<u32>,
     back: Vec<u32>,
-    /// How many of those that were found from behind were looked at.
+    /// How many of the vertices found on the search back were looked at.
     looked: usize,
     way: Vec<u32>,
     claims: Vec<RowClaim>,
@@ -74,13 +74,13 @@ impl Ways {
         item(&self.found, v, Found::NOT)
     }
 
-    /// The claims in their order.
+    /// Returns the claims in their order.
     pub fn into_claims(self) -> Vec<RowClaim> {
         let Ways { claims, .. } = self;
         claims
     }
 
-    /// Claims a row, if that wasn't done.
+    /// Claims a row of a vertex, unless it is zeros or was the last one claimed there.
     pub fn claim(&mut self, v: u32, row: u32) -> Result<(), AllocError> {
         let found = self.found(v);
         if row == ZEROS || found.row == row {
@@ -104,7 +104,7 @@ impl Ways {
         self.find_back(out.from, out.to)
     }
 
-    /// Notes that the way out is known from a vertex.
+    /// Notes that the way out is known from a vertex, and goes on to `next`.
     fn find_back(&mut self, v: u32, next: u32) -> Result<(), AllocError> {
         let found = Found {
             part: self.part.begin,
@@ -116,7 +116,7 @@ impl Ways {
         Ok(())
     }
 
-    /// Notes from which vertex one was found.
+    /// Notes that the search forward found `v` from `before`.
     fn find_fore(&mut self, v: u32, before: u32) -> Result<(), AllocError> {
         let found = Found {
             turn: self.turn,
@@ -133,7 +133,7 @@ impl Ways {
         self.part.begin <= place && place < self.part.end
     }
 
-    /// Claims the row of the way out along a way to it from a head; false where there is none.
+    /// Claims the row of the way out along a way to it from a head. Returns false if none is found.
     pub fn show(&mut self, side: &mut Side, places: &[u32], head: u32) -> Result<bool, AllocError> {
         if self.found(head).part != self.part.begin && !self.join(side, places, head)? {
             return Ok(false);
@@ -157,7 +157,7 @@ impl Ways {
         Ok(true)
     }
 
-    /// Searches from both ends until the way out is known from a head.
+    /// Searches from both ends until the way out is known from a head. Returns false if the searches don't meet, or that takes too long.
     fn join(&mut self, side: &mut Side, places: &[u32], head: u32) -> Result<bool, AllocError> {
         self.turn = self.turn.wrapping_add(1);
         self.fore.clear();
@@ -176,7 +176,7 @@ impl Ways {
         Ok(false)
     }
 
-    /// Goes on from a vertex; true where the searches meet.
+    /// Goes forward from a vertex. Returns true if the searches meet.
     fn go_on(&mut self, side: &mut Side, places: &[u32], v: u32) -> Result<bool, AllocError> {
         let state = side.state(v);
         for w in side.successors(v) {
@@ -195,7 +195,7 @@ impl Ways {
         Ok(false)
     }
 
-    /// Goes back from the next vertex from which the way out is known; true where the searches meet.
+    /// Goes back from the next vertex from which the way out is known. Returns true if the searches meet.
     fn go_back(&mut self, side: &mut Side, places: &[u32]) -> Result<bool, AllocError> {
         let Some(w) = self.back.get(self.looked).copied() else {
             return Ok(false);
@@ -219,7 +219,7 @@ impl Ways {
         Ok(false)
     }
 
-    /// Notes that the way out is known from an edge where the searches met, and from all before it.
+    /// Notes that the way out is known from the edge where the searches met, and from all vertices before it.
     fn connect(&mut self, from: u32, to: u32) -> Result<(), AllocError> {
         let mut v = from;
         let mut next = to;

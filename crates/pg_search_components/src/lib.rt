@@ -1,5 +1,5 @@
-//! Strongly connected components of a graph, and orders that are to show that its cycles have even greatest heights. Nothing is promised
-//! of what is found but that it is found safely and in the end: who wants to believe it looks at it.
+//! Strongly connected components of a graph, and orders meant to show that the greatest heights on its cycles are even. The search
+//! is safe and ends, but nothing else is promised of what it finds: whoever wants to believe that checks it.
 #![tactic(auto)]
 
 mod arranging;

@@ -1,9 +1,9 @@
-//! Lists of numbers, which are read and written at any place.
+//! Lists of numbers that can be read and written at any place.
 
-/// Where no number stands.
+/// Stands for no number.
 pub const NONE: u32 = u32::MAX;
 
-/// The number at a place, and `NONE` past the last.
+/// Returns the number at a place, or `NONE` past the end.
 #[inline(always)]
 pub fn at(numbers: &[u32], place: u32) -> u32 {
     if (place as usize) < numbers.len() {
@@ -13,7 +13,7 @@ pub fn at(numbers: &[u32], place: u32) -> u32 {
     }
 }
 
-/// Puts a number to a place, if that is there.
+/// Sets the number at a place, if it is within the list.
 #[inline(always)]
 pub fn put(numbers: &mut [u32], place: u32, number: u32) {
     if (place as usize) < numbers.len() {
@@ -21,13 +21,13 @@ pub fn put(numbers: &mut [u32], place: u32, number: u32) {
     }
 }
 
-/// How many there are, as far as a number of 32 bits tells.
+/// Returns a length as a number of 32 bits, or `NONE` if it is greater.
 #[inline(always)]
 pub fn count(length: usize) -> u32 {
     length.min(NONE as usize) as u32
 }
 
-/// The numbers from one place to another, as far as they are there.
+/// Returns the numbers from the place `from` on before the place `to`, as far as they are there.
 #[inline(always)]
 pub fn between(numbers: &[u32], from: u32, to: u32) -> &[u32] {
     let to = (to as usize).min(numbers.len());
@@ -35,7 +35,7 @@ pub fn between(numbers: &[u32], from: u32, to: u32) -> &[u32] {
     &numbers[from..to]
 }
 
-/// The numbers from a place on.
+/// Returns the numbers from a place on.
 #[inline(always)]
 pub fn from(numbers: &[u32], place: usize) -> &[u32] {
     let place = place.min(numbers.len());

@@ -4,10 +4,10 @@ use crate::components::Edges;
 use crate::numbers::{NONE, at, between, count, put};
 use std::alloc::{AllocError, Global};
 
-/// Where each vertex leads, row by row.
+/// Where the edges of each vertex lead, row by row.
 #[derive(Drop)]
 pub struct Rows {
-    /// Where each row begins, and one more at the end.
+    /// Where each row begins, and one more entry at the end.
     starts: Vec<u32>,
     targets: Vec<u32>,
 }
@@ -26,7 +26,7 @@ impl Edges for Rows {
 }
 
 impl Rows {
-    /// No row yet, and room for so many.
+    /// Makes an empty list of rows, with room for `rows` rows.
     pub fn with_capacity(alloc: Global, rows: usize) -> Result<Rows, AllocError> {
         let mut starts = Vec::with_capacity(alloc, rows.saturating_add(1))?;
         starts.push(0)?;
@@ -36,7 +36,7 @@ impl Rows {
         })
     }
 
-    /// Puts an edge into the row that is not yet ended.
+    /// Appends an edge to the row that hasn't ended yet.
     #[inline(always)]
     pub fn push(&mut self, target: u32) -> Result<(), AllocError> {
         self.targets.push(target)?;
@@ -50,7 +50,7 @@ impl Rows {
         Ok(())
     }
 
-    /// Forgets all edges. There are so many rows, which are to be counted and then filled.
+    /// Forgets all edges, and begins anew with `rows` rows, whose edges must be counted and then put in.
     pub fn clear(&mut self, rows: u32) -> Result<(), AllocError> {
         self.starts.clear();
         self.starts.resize(rows as usize, 0)
@@ -75,7 +75,7 @@ impl Rows {
         self.targets.resize(all as usize, NONE)
     }
 
-    /// Puts an edge that was counted into its row: the last one first.
+    /// Puts an edge that was counted into its row, from the end of the row backwards.
     #[inline(always)]
     pub fn put(&mut self, row: u32, target: u32) {
         let place = at(&self.starts, row).wrapping_sub(1);
@@ -83,7 +83,7 @@ impl Rows {
         put(&mut self.targets, place, target);
     }
 
-    /// The targets of all rows, row by row.
+    /// Returns the targets of all rows, row by row.
     pub fn all(&self) -> &[u32] {
         &self.targets
     }

@@ -1,6 +1,6 @@
-//! Maps of rows: the measures of one player's vertices, which are lifted from below, set by sweeps through a winning strategy, and
-//! lowered from above. Nothing is promised of what is found but that it is found safely and in the end: who wants to believe it has it
-//! certified.
+//! Maps of rows: the measures of one player's vertices. They are lifted from below, set by sweeps through a winning strategy, and
+//! lowered from above. The search is safe and ends, but nothing else is promised of what it finds: whoever wants to believe that
+//! has it certified.
 #![tactic(auto)]
 
 mod lifting;

@@ -1,4 +1,4 @@
-//! Lifting from zeros, as long as that looks short.
+//! Lifting from zeros, as long as it looks short.
 
 use crate::rows::ZEROS;
 use crate::side::Side;
@@ -8,12 +8,12 @@ use std::mem;
 /// How often lifting may look at each edge.
 const LOOKS: u64 = 3;
 
-/// And how often at few edges.
+/// How many looks lifting may take on top of that, for graphs with few edges.
 const LOOKS_OF_FEW: u64 = 4096;
 
 impl Side<'_> {
-    /// Lifts until nothing waits any more; false where it is left, since it looks as if that took long: many vertices count along, or few
-    /// climb for long.
+    /// Lifts until no vertex waits any more. Returns false if it gives up because that looks as if it would take long: many
+    /// vertices keep counting up, few climb for long, or there were too many looks.
     pub fn lift(&mut self, alloc: Global) -> Result<bool, AllocError> {
         let vertices = self.len() as usize;
         let edges = u64::from(self.graph.edges());
@@ -40,7 +40,7 @@ impl Side<'_> {
         Ok(waiting.is_empty())
     }
 
-    /// Lifts the vertices of odd priorities from zeros, which then wait.
+    /// Lifts the vertices of odd priorities from zeros. They wait then.
     fn step_odd(&mut self, waiting: &mut Vec<u32>) -> Result<(), AllocError> {
         for v in 0..self.len() {
             let state = self.state(v);
@@ -53,7 +53,7 @@ impl Side<'_> {
         Ok(())
     }
 
-    /// Lifts or lowers what leads to those that wait. What changed then waits.
+    /// Lifts or lowers the vertices that lead to those that wait. Those that changed wait then.
     pub(crate) fn turn(
         &mut self,
         waiting: &mut Vec<u32>,
@@ -74,7 +74,7 @@ impl Side<'_> {
         Ok(())
     }
 
-    /// Lifts what a vertex doesn't serve any more.
+    /// Lifts the vertices that a vertex no longer serves.
     fn lift_predecessors(&mut self, w: u32, next: &mut Vec<u32>) -> Result<(), AllocError> {
         let row = self.row(w);
         for v in self.predecessors(w) {
@@ -98,7 +98,8 @@ impl Side<'_> {
         Ok(())
     }
 
-    /// Finds another successor that serves a vertex of the winner: none is given. Else gives the row of the least, which is kept.
+    /// Looks for another successor that serves a vertex of the winner. Keeps it and returns `None` if there is one. Otherwise keeps
+    /// the least successor and returns its row.
     fn other_from(&mut self, v: u32, row: u32) -> Option<u32> {
         let state = self.state(v);
         let mut least = (state.to, row);

@@ -1,4 +1,4 @@
-//! Lowering of a closed map where successors give less.
+//! Lowering of a closed map where successors allow less.
 
 use crate::numbers::NONE;
 use crate::rows::ZEROS;
@@ -6,7 +6,8 @@ use crate::side::Side;
 use std::alloc::{AllocError, Global};
 
 impl Side<'_> {
-    /// Lowers until nothing changes: from a closed map to one in which each row is the step of a successor's. The map stays closed.
+    /// Lowers until nothing changes: from a closed map to one in which each row is the step of a successor's row. The map stays
+    /// closed. It stops earlier if there were more looks than there may be.
     pub fn lower(&mut self, alloc: Global, waiting: &mut Vec<u32>) -> Result<(), AllocError> {
         let mut next = Vec::new(alloc);
         for _ in 0..u64::MAX {
@@ -18,7 +19,7 @@ impl Side<'_> {
         Ok(())
     }
 
-    /// Lowers what leads to a vertex.
+    /// Lowers the vertices that lead to a vertex.
     pub(crate) fn lower_predecessors(
         &mut self,
         v: u32,
@@ -49,7 +50,7 @@ impl Side<'_> {
         Ok(())
     }
 
-    /// Looks at all successors of a vertex; true where it is lowered.
+    /// Looks at all successors of a vertex. Returns true if it is lowered.
     pub fn refresh(&mut self, v: u32) -> Result<bool, AllocError> {
         let state = self.state(v);
         let to = if state.is_mine() {
@@ -67,7 +68,7 @@ impl Side<'_> {
         Ok(lowered != state.row)
     }
 
-    /// A successor by which a vertex is lowered the most, or `NONE`.
+    /// Returns a successor by which a vertex is lowered the most, or `NONE`.
     fn least_successor(&mut self, v: u32) -> u32 {
         let state = self.state(v);
         let mut least = self.rows.low(state.row, state.priority());
@@ -82,7 +83,7 @@ impl Side<'_> {
         to
     }
 
-    /// A successor with the greatest row, or `NONE`.
+    /// Returns a successor with the greatest row, or `NONE`.
     pub(crate) fn greatest_successor(&mut self, v: u32) -> u32 {
         let mut most = ZEROS;
         let mut to = NONE;

@@ -1,8 +1,8 @@
-//! Lists, which are read and written at any place.
+//! Lists that can be read and written at any place.
 
 pub use pg_search_components::{NONE, at, count};
 
-/// The item at a place, and another one past the last.
+/// Returns the item at a place, or `other` past the end.
 #[inline(always)]
 pub fn item<T: Copy + Drop>(items: &[T], place: u32, other: T) -> T {
     if (place as usize) < items.len() {
@@ -12,7 +12,7 @@ pub fn item<T: Copy + Drop>(items: &[T], place: u32, other: T) -> T {
     }
 }
 
-/// Puts an item to a place, if that is there.
+/// Sets the item at a place, if it is within the list.
 #[inline(always)]
 pub fn put<T: Copy + Drop>(items: &mut [T], place: u32, it: T) {
     if (place as usize) < items.len() {
@@ -20,7 +20,7 @@ pub fn put<T: Copy + Drop>(items: &mut [T], place: u32, it: T) {
     }
 }
 
-/// Whether a place is marked.
+/// Whether a place is marked. Past the end none is.
 #[inline(always)]
 pub fn is_marked(marks: &[bool], place: u32) -> bool {
     item(marks, place, false)

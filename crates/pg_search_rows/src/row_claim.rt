@@ -1,7 +1,7 @@
-//! Claims before rows have ranks.
+//! Claims whose rows have no ranks yet.
 
-/// That each closed map has at least a row at a vertex. In an order of such claims they lead to places before the sum of place
-/// and span.
+/// The claim that each closed map has at least a row at a vertex. In an order of such claims, each leads to places before the sum
+/// of its place and its span.
 #[derive(Clone, Copy)]
 pub struct RowClaim {
     pub vertex: u32,

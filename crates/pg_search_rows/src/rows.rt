@@ -1,12 +1,12 @@
 //! Rows of least measures, as nodes of a tree.
 //!
-//! A node is its parent's row with one more component above 0, at a lesser priority. Equal rows are one node, so that rows are
-//! compared by a walk to where their ways part; zeros are the root and cost nothing.
+//! A node is the row of its parent with one more component above 0, at a lesser priority. Equal rows are one node, so two rows are
+//! compared by walking to where the ways to them part. The zeros are the root and cost nothing.
 
 use crate::numbers::{at, count, put};
 use std::alloc::{AllocError, Global};
 
-/// In place of a row: top.
+/// Stands for top in place of a row.
 pub const TOP: u32 = u32::MAX;
 
 /// The row in which all components are 0.
@@ -21,11 +21,11 @@ pub struct Node {
     /// The odd priority of the last component above 0, and that component.
     pub priority: u32,
     pub component: u32,
-    /// The row in which that component is one less, and the one in which it is one greater (`ZEROS` where there is none yet).
+    /// The row in which that component is one less, and the row in which it is one greater (`ZEROS` if there is none yet).
     pub less: u32,
     more: u32,
     depth: u32,
-    /// A row far up, so that long ways are walked in few steps: at a depth that depends on this row's depth alone.
+    /// A row far up, so that long ways are walked in few steps. Its depth depends on the depth of this row alone.
     jump: u32,
 }
 
@@ -44,11 +44,12 @@ impl Node {
 #[derive(Drop)]
 pub struct Rows {
     nodes: Vec<Node>,
-    /// The rows whose last component is 1, at places that their parents and priorities tell.
+    /// The rows whose last component is 1, at places that their parents and priorities determine.
     table: Vec<u32>,
 }
 
 impl Rows {
+    /// Makes rows of which only the zeros are there.
     pub fn new(alloc: Global) -> Result<Rows, AllocError> {
         Ok(Rows {
             nodes: vec![in alloc; Node::ROOT; 1]?,
@@ -56,7 +57,7 @@ impl Rows {
         })
     }
 
-    /// How many rows there are.
+    /// Returns the number of rows.
     pub fn len(&self) -> u32 {
         count(self.nodes.len())
     }
@@ -70,7 +71,7 @@ impl Rows {
         }
     }
 
-    /// The row with all components of lesser priorities set to 0.
+    /// Returns the row with all components of lesser priorities set to 0.
     #[inline(always)]
     pub fn cut(&self, row: u32, priority: u32) -> u32 {
         let mut row = row;
@@ -90,7 +91,7 @@ impl Rows {
         row
     }
 
-    /// The row on the way to this one that is at most so deep.
+    /// Returns the deepest row on the way to this one whose depth is at most `depth`.
     #[inline(always)]
     fn up(&self, row: u32, depth: u32) -> u32 {
         let mut row = row;
@@ -110,7 +111,7 @@ impl Rows {
         row
     }
 
-    /// The first rows that differ on the ways to two rows; the lesser one twice, where it is on the way to the other.
+    /// Returns the first rows that differ on the ways to two rows, or the lesser one twice if it is on the way to the other.
     #[inline(always)]
     fn parting(&self, row: u32, other: u32) -> (u32, u32) {
         let depth = self.node(row).depth.min(self.node(other).depth);
@@ -146,7 +147,7 @@ impl Rows {
         self.is_before(one, two)
     }
 
-    /// Whether a row is less than another, where they agree but for their last components.
+    /// Whether a row is less than another that agrees with it in all but their last components.
     #[inline(always)]
     fn is_before(&self, row: u32, other: u32) -> bool {
         let (x, y) = (self.node(row), self.node(other));
@@ -157,7 +158,7 @@ impl Rows {
         }
     }
 
-    /// The first row on the way to one that is at least another; none where that one isn't.
+    /// Returns the first row on the way to `row` that is at least `low`, or `None` if `row` itself isn't.
     #[inline(always)]
     pub fn first_from(&self, low: u32, row: u32) -> Option<u32> {
         if row == low || self.node(row).parent == low {
@@ -176,12 +177,12 @@ impl Rows {
         if is_enough { Some(two) } else { None }
     }
 
-    /// The first row on the way to one that stands behind another on that way.
+    /// Returns the first row on the way to `row` that comes after `before`.
     pub fn after(&self, before: u32, row: u32) -> u32 {
         self.up(row, self.node(before).depth.saturating_add(1))
     }
 
-    /// The least step of a row at a priority.
+    /// Returns the least step of a row at a priority.
     #[inline(always)]
     pub fn step(&mut self, row: u32, priority: u32) -> Result<u32, AllocError> {
         let row = self.cut(row, priority);
@@ -204,7 +205,7 @@ impl Rows {
         Ok(row)
     }
 
-    /// The row with the last component one greater.
+    /// Adds the row with the last component one greater, and returns it.
     fn add_more(&mut self, row: u32, node: Node) -> Result<u32, AllocError> {
         let more = self.add(Node {
             component: node.component.saturating_add(1),
@@ -218,7 +219,7 @@ impl Rows {
         Ok(more)
     }
 
-    /// Where the row with one more component, of 1, stands in the table, or is to stand.
+    /// Returns where in the table the row with one more component, which is 1, stands or will stand.
     #[inline(always)]
     fn place(&self, parent: u32, priority: u32) -> u32 {
         let mask = count(self.table.len()).saturating_sub(1);
@@ -236,7 +237,7 @@ impl Rows {
         place
     }
 
-    /// The row with one more component, of 1.
+    /// Returns the row with one more component, which is 1, and adds it if it isn't there.
     fn child(&mut self, row: u32, priority: u32) -> Result<u32, AllocError> {
         let place = self.place(row, priority);
         let there = at(&self.table, place);
@@ -263,7 +264,7 @@ impl Rows {
         Ok(child)
     }
 
-    /// Makes the table greater.
+    /// Enlarges the table.
     fn grow(&mut self) -> Result<(), AllocError> {
         let places = self.table.len().saturating_mul(4);
         self.table.clear();
@@ -278,7 +279,7 @@ impl Rows {
         Ok(())
     }
 
-    /// Whether a successor with a row serves a vertex of a priority with another row.
+    /// Whether a successor with the row `successor` serves a vertex with the given priority and the row `row`.
     #[inline(always)]
     pub fn serves(&self, row: u32, successor: u32, priority: u32) -> bool {
         if successor == ZEROS || row == TOP {
@@ -291,7 +292,7 @@ impl Rows {
         }
     }
 
-    /// The row whose step at a priority is at least this one, as are those of no lesser ones.
+    /// Returns the row whose step at a priority is at least this one, as are the steps of all rows that aren't less.
     #[inline(always)]
     pub fn low(&self, row: u32, priority: u32) -> u32 {
         let node = self.node(row);

@@ -1,4 +1,4 @@
-//! What one player wins, as that player sees it, for whom it wants the least map: that player is called the winner.
+//! What one player wins, as seen by that player, for whom the least map is sought: this player is called the winner.
 
 use crate::numbers::{NONE, at, count};
 use crate::rows::{Rows, ZEROS};
@@ -9,9 +9,10 @@ use std::alloc::{AllocError, Global};
 #[derive(Clone, Copy)]
 pub struct State {
     pub row: u32,
-    /// The priority times four, plus two where the vertex waits, plus one where the winner owns it.
+    /// Four times the priority, plus 2 if the vertex waits, plus 1 if the winner owns it.
     key: u32,
-    /// Of the winner's: the successor that serves it, or that a strategy chooses. Else one that holds the row, or `NONE`.
+    /// At a vertex of the winner, the successor that serves it or that a strategy chooses. Elsewhere one that holds the row, or
+    /// `NONE`.
     pub to: u32,
 }
 
@@ -20,7 +21,7 @@ const WAITS: u32 = 2;
 const MINE: u32 = 1;
 
 impl State {
-    /// Past the last vertex.
+    /// The state past the last vertex.
     const NOWHERE: State = State {
         row: ZEROS,
         key: 0,
@@ -38,8 +39,8 @@ impl State {
     }
 }
 
-/// The map of one player, on a graph of the vertices that it wins. On the side of Odd priorities are raised by one, so that those of the
-/// winner are even on both.
+/// The map of one player, on a graph of the vertices that it wins. For Odd, priorities are raised by one, so that the winner's are
+/// even for both players.
 #[derive(Drop)]
 pub struct Side<'a> {
     pub graph: &'a Graph,
@@ -47,15 +48,15 @@ pub struct Side<'a> {
     states: Vec<State>,
     /// Even is 0, Odd is 1.
     pub player: u32,
-    /// How many vertices and edges were looked at, and how many may be.
+    /// The number of vertices and edges that were looked at, and the most that may be.
     pub looks: u64,
     most: u64,
-    /// What `look_ahead` saw last, which nobody asks for.
+    /// What `look_ahead` saw last, which nothing reads.
     seen: u32,
 }
 
 impl<'a> Side<'a> {
-    /// Zeros everywhere, and what is chosen at the player's vertices.
+    /// Begins with zeros everywhere, and with these choices at the player's vertices. It is late after `most` looks.
     pub fn new(
         alloc: Global,
         graph: &'a Graph,
@@ -84,7 +85,7 @@ impl<'a> Side<'a> {
         })
     }
 
-    /// How many vertices there are.
+    /// Returns the number of vertices.
     pub fn len(&self) -> u32 {
         count(self.states.len())
     }
@@ -117,7 +118,7 @@ impl<'a> Side<'a> {
         }
     }
 
-    /// Lets a vertex wait, if it doesn't yet.
+    /// Lets a vertex wait, and lists it, if it doesn't wait yet.
     #[inline(always)]
     pub fn wake(&mut self, v: u32, waiting: &mut Vec<u32>) -> Result<(), AllocError> {
         if (v as usize) < self.states.len() && self.states[v as usize].key & WAITS == 0 {
@@ -127,7 +128,7 @@ impl<'a> Side<'a> {
         Ok(())
     }
 
-    /// Notes that a vertex doesn't wait any more.
+    /// Notes that a vertex no longer waits.
     #[inline(always)]
     pub fn waits_no_more(&mut self, v: u32) {
         if (v as usize) < self.states.len() {
@@ -135,7 +136,7 @@ impl<'a> Side<'a> {
         }
     }
 
-    /// The successors of a vertex, which are looked at.
+    /// Returns the successors of a vertex, and counts a look at each.
     #[inline(always)]
     pub fn successors(&mut self, v: u32) -> &'a [u32] {
         let graph = self.graph;
@@ -144,7 +145,7 @@ impl<'a> Side<'a> {
         successors
     }
 
-    /// The predecessors of a vertex, which are looked at, and that vertex too.
+    /// Returns the predecessors of a vertex, and counts a look at each of them and at the vertex.
     #[inline(always)]
     pub fn predecessors(&mut self, v: u32) -> &'a [u32] {
         let graph = self.graph;
@@ -156,7 +157,8 @@ impl<'a> Side<'a> {
         predecessors
     }
 
-    /// Reads what will be wanted soon when the predecessors of a list are looked at, so that it isn't waited for then.
+    /// Reads what is needed soon when the predecessors of the vertices in a list are looked at, so that nothing has to wait for it
+    /// then.
     #[inline(always)]
     pub fn look_ahead(&mut self, list: &[u32], place: usize) {
         let graph = self.graph;
@@ -175,12 +177,12 @@ impl<'a> Side<'a> {
         self.seen ^= seen;
     }
 
-    /// Whether more was looked at than may be.
+    /// Whether there were more looks than there may be.
     pub fn is_late(&self) -> bool {
         self.looks > self.most
     }
 
-    /// Forgets all rows.
+    /// Forgets all rows: each vertex has zeros again.
     pub fn clear(&mut self, alloc: Global) -> Result<(), AllocError> {
         self.rows = Rows::new(alloc)?;
         for v in 0..self.len() {
@@ -189,7 +191,7 @@ impl<'a> Side<'a> {
         Ok(())
     }
 
-    /// Lets the winner choose as given.
+    /// Sets what the winner chooses.
     pub fn choose(&mut self, choices: &[u32]) {
         for v in 0..self.len() {
             if self.state(v).is_mine() {
@@ -198,7 +200,7 @@ impl<'a> Side<'a> {
         }
     }
 
-    /// Whether the winner has one way at most to stay among what it wins, at each vertex.
+    /// Whether the winner has at most one way to stay among what it wins, at each of its vertices.
     pub fn has_no_choice(&self) -> bool {
         (0..self.len()).all(|v| !self.state(v).is_mine() || self.graph.successors(v).len() <= 1)
     }

@@ -1,4 +1,4 @@
-//! The map of a winning strategy, by sweeps through the vertices, which are numbered so that edges mostly lead to lesser numbers.
+//! The map of a winning strategy, by sweeps through the vertices, which are numbered so that most edges lead to lesser numbers.
 
 use crate::numbers::{NONE, count};
 use crate::side::Side;
@@ -7,7 +7,7 @@ use std::alloc::{AllocError, Global};
 /// How often sweeps may look at each vertex and edge.
 const LOOKS: u64 = 8;
 
-/// Takes the first vertex of a word of vertices, a bit for each; or `NONE`.
+/// Takes the first vertex out of a word of open vertices, which has a bit for each. Returns it, or `NONE` if there is none.
 #[inline(always)]
 fn take(open: &mut [u64], word: u32) -> u32 {
     if word as usize >= open.len() || open[word as usize] == 0 {
@@ -20,8 +20,8 @@ fn take(open: &mut [u64], word: u32) -> u32 {
 }
 
 impl Side<'_> {
-    /// The rows under the winner's strategy, from rows that are at most those; false where that takes more than five lifts for four
-    /// vertices, or too many looks.
+    /// Raises the rows to those under the winner's strategy, from rows that are at most those. Returns false if that takes more
+    /// than five lifts for four vertices, or too many looks.
     pub fn sweep(&mut self, alloc: Global) -> Result<bool, AllocError> {
         let vertices = self.len();
         let mut open = vec![in alloc; u64::MAX; (vertices / 64 + 1) as usize]?;
@@ -56,7 +56,7 @@ impl Side<'_> {
         Ok(true)
     }
 
-    /// Sets the row of a vertex by the strategy; whether it changes.
+    /// Sets the row of a vertex by the strategy. Returns whether it changes.
     fn lift_by_strategy(&mut self, v: u32) -> Result<bool, AllocError> {
         let state = self.state(v);
         let to = if state.is_mine() {
@@ -70,7 +70,7 @@ impl Side<'_> {
         Ok(row != state.row)
     }
 
-    /// Opens what leads to a vertex. Gives the first word of what isn't behind it.
+    /// Opens the vertices that lead to a vertex. Returns the first word with one of them that isn't after the vertex, or `NONE`.
     fn open_predecessors(&mut self, v: u32, open: &mut [u64]) -> u32 {
         let mut again = NONE;
         for u in self.predecessors(v) {

@@ -1,16 +1,17 @@
 //! Fixpoint iteration with justifications (Ruben Lapauw, Maurice Bruynooghe and Marc Denecker, Improving Parity Game Solvers with
 //! Justifications, 2020), on a part of the graph.
 //!
-//! Each vertex has a value: who wins it as things stand, at first the player of its priority. Always that vertex is looked at which isn't
-//! justified and has the least priority. It is its owner's where a successor is, which justifies that, and else the opponent's, which
-//! all successors justify. Where its value changes, what was justified by it begins again. In the end all is justified.
+//! Each vertex has a value: who wins it as things stand, which at first is the player of its priority. The next vertex looked at is
+//! always the one of least priority that isn't justified. Its owner wins it if the owner wins a successor, which then justifies
+//! that; otherwise the opponent wins it, and all successors justify that. When its value changes, whatever it justified begins
+//! again. In the end all vertices are justified.
 
 use crate::graph::Graph;
 use crate::table::{FIRST, Table, WAITING};
 use pg_search_components::{NONE, at, put};
 use std::alloc::{AllocError, Global};
 
-/// Places, a bit for each, and a bit for each word of them that isn't zero.
+/// A set of places: a bit for each place, and a bit for each word of these that isn't zero.
 #[derive(Drop)]
 struct Places {
     words: Vec<u32>,
@@ -18,7 +19,7 @@ struct Places {
 }
 
 impl Places {
-    /// Makes room for so many places, and forgets what was there.
+    /// Makes room for `many` places, and forgets the earlier ones.
     fn clear(&mut self, many: usize) -> Result<(), AllocError> {
         self.words.clear();
         self.groups.clear();
@@ -40,7 +41,7 @@ impl Places {
         put(&mut self.groups, group, groups);
     }
 
-    /// Takes the first place, or `NONE`.
+    /// Takes the first place out and returns it, or returns `NONE` if there is none.
     fn take(&mut self) -> u32 {
         let mut group = 0u32;
         for groups in &self.groups {
@@ -67,19 +68,19 @@ impl Places {
     }
 }
 
-/// What a value has more where it is justified.
+/// Added to a value that is justified.
 const JUSTIFIED: u32 = 2;
 
 #[derive(Drop)]
 pub(crate) struct Fixpoint {
-    /// The place of each vertex in the part, and the places of those that aren't justified.
+    /// The place of each vertex in the part, and the places of the vertices that aren't justified.
     places: Vec<u32>,
     open: Places,
     /// Who wins each vertex as things stand.
     values: Vec<u32>,
-    /// The successor that justifies the value of each vertex, or `NONE` where all do.
+    /// The successor that justifies the value of each vertex, or `NONE` where all successors do.
     choices: Vec<u32>,
-    /// What begins again.
+    /// The vertices that changed or begin again.
     changed: Vec<u32>,
 }
 
@@ -97,7 +98,7 @@ impl Fixpoint {
         })
     }
 
-    /// Begins with a part, which is given by rising priority.
+    /// Begins with a part, whose vertices are given by rising priority.
     pub fn begin(&mut self, graph: &Graph, part: &[u32]) -> Result<(), AllocError> {
         self.open.clear(part.len())?;
         let mut place = 0u32;
@@ -110,8 +111,8 @@ impl Fixpoint {
         Ok(())
     }
 
-    /// Goes on with the part until all is justified, and then puts each vertex into its winner's region; false where more was looked at
-    /// than `looks`.
+    /// Continues with the part until all is justified, and then puts each vertex into its winner's region. Returns false if that
+    /// takes more than `looks` looks.
     pub fn run(
         &mut self,
         graph: &Graph,
@@ -134,7 +135,7 @@ impl Fixpoint {
         Ok(false)
     }
 
-    /// Puts the vertices into regions by who wins them, with what is chosen.
+    /// Puts each vertex into its winner's region, and sets what is chosen there.
     fn show(&self, table: &mut Table, part: &[u32]) {
         for v in part {
             table.mark(*v, FIRST.saturating_add(at(&self.values, *v) % 2));
@@ -166,7 +167,7 @@ impl Fixpoint {
         self.begin_again(graph, table, (winner ^ 1) | JUSTIFIED)
     }
 
-    /// Lets vertices of a value begin again that are justified by what changed.
+    /// Lets each vertex begin again that has the given value and is justified by a vertex that changed.
     fn begin_again(
         &mut self,
         graph: &Graph,

@@ -4,31 +4,32 @@ use pg_arena::{Game, Player, Vertex};
 use pg_search_components::{Edges, NONE, Rows, at, between, count, put};
 use std::alloc::{AllocError, Global};
 
-/// Vertices with priorities and owners, their successors and their predecessors, row by row. Players have numbers here: Even
-/// is 0 and Odd is 1, so that the player of a priority is its remainder by 2.
+/// Vertices with priorities and owners, and their successors and predecessors row by row. Players are numbers here: Even is 0 and
+/// Odd is 1, so that the player of a priority is its remainder by 2.
 ///
-/// A vertex that leads to itself to its owner's harm, and to another vertex too, is kept without that edge: its first other
+/// If a vertex leads to itself to its owner's harm, and to another vertex too, the edge to itself isn't kept: the first other
 /// successor stands there once more.
 #[derive(Drop)]
 pub struct Graph {
     priorities: Vec<u32>,
-    /// For each vertex where its row begins, times two, plus its owner; and one more at the end.
+    /// For each vertex, twice the place where its row begins, plus its owner; and one more entry at the end.
     rows: Vec<u32>,
     successors: Vec<u32>,
-    /// The predecessors of each vertex, rising.
+    /// The predecessors of each vertex, in rising order.
     predecessors: Rows,
-    /// The vertices that led to themselves.
+    /// The vertices that had an edge to themselves.
     loops: Vec<u32>,
 }
 
-/// A graph of so many vertices is large, an edge over so many leads far, and one in so many vertices is a sample.
+/// A graph of at least `LARGE` vertices is large, an edge over at least `FAR` vertices leads far, and one in `SAMPLE` vertices is
+/// sampled.
 const LARGE: u32 = 1 << 19;
 
 const FAR: u32 = 1 << 14;
 
 const SAMPLE: u32 = 64;
 
-/// What tells where a row begins and who owns it.
+/// Returns the number that says where a row begins and who owns it.
 #[inline(always)]
 fn row_of(offset: u32, owner: Player) -> u32 {
     let player = match owner {
@@ -39,7 +40,7 @@ fn row_of(offset: u32, owner: Player) -> u32 {
 }
 
 impl Graph {
-    /// The graph of a game.
+    /// Makes the graph of a game.
     pub fn of(alloc: Global, game: &Game) -> Result<Graph, AllocError> {
         let mut priorities = Vec::with_capacity(alloc, game.len())?;
         let mut rows = Vec::with_capacity(alloc, game.len().saturating_add(1))?;
@@ -56,8 +57,8 @@ impl Graph {
         Graph::of_rows(alloc, priorities, rows, successors)
     }
 
-    /// The graph with these priorities and owners, and with the successors of each vertex from its offset on, up to the next
-    /// one: there is one more offset than vertices. Each vertex has to have a successor.
+    /// Makes the graph with these priorities and owners. The successors of each vertex stand from its offset on up to the next one,
+    /// so there is one more offset than vertices. Each vertex must have a successor.
     pub fn new(
         alloc: Global,
         priorities: Vec<u32>,
@@ -73,8 +74,8 @@ impl Graph {
         Graph::of_rows(alloc, priorities, rows, successors)
     }
 
-    /// The graph of some vertices, which are numbered as they are given. Edges lead to the numbers that `numbers` has of their heads; those
-    /// are left out where it has `NONE`.
+    /// Makes the graph of some vertices, numbered in the order in which they are given. `numbers` has the new number of each vertex
+    /// of this graph; edges to a vertex for which it has `NONE` are left out.
     pub fn part(
         &self,
         alloc: Global,
@@ -116,7 +117,7 @@ impl Graph {
         Ok(graph)
     }
 
-    /// Notes who leads to itself, and takes those edges away that harm their owner, where another edge is left.
+    /// Notes which vertices lead to themselves, and removes such edges that harm their owner where another edge is left.
     fn take_loops(&mut self) -> Result<(), AllocError> {
         for v in 0..self.len() {
             let row = self.successors(v);
@@ -134,7 +135,7 @@ impl Graph {
         Ok(())
     }
 
-    /// Lets a vertex lead to another one in place of itself.
+    /// Redirects the edges from a vertex to itself to another vertex.
     fn lead_elsewhere(&mut self, v: u32, other: u32) {
         let (from, to) = (self.row(v), self.row(v.saturating_add(1)));
         for place in from..to {
@@ -157,7 +158,7 @@ impl Graph {
         Ok(())
     }
 
-    /// Puts the predecessors of the vertices from one to another into their rows.
+    /// Puts the predecessors of the vertices in `from..to` into their rows.
     fn put_predecessors(&mut self, from: u32, to: u32) {
         if from == to {
             return;
@@ -172,8 +173,8 @@ impl Graph {
         }
     }
 
-    /// Whether the graph is large, and most edges lead far in memory. Then rows of predecessors are filled half by half, since the
-    /// processor keeps track of only so many pages of memory at once.
+    /// Whether the graph is large and most of its edges lead far in memory. Then the rows of predecessors are filled half by half,
+    /// since the processor keeps track of only a limited number of pages of memory at once.
     fn is_scattered(&self) -> bool {
         let sampled = self.len() / SAMPLE;
         let (mut edges, mut far) = (0usize, 0usize);
@@ -186,42 +187,42 @@ impl Graph {
         self.len() >= LARGE && far > edges / 2
     }
 
-    /// Where the row of a vertex begins.
+    /// Returns where the row of a vertex begins.
     #[inline(always)]
     fn row(&self, v: u32) -> u32 {
         at(&self.rows, v) / 2
     }
 
-    /// How many vertices there are.
+    /// Returns the number of vertices.
     #[inline(always)]
     pub fn len(&self) -> u32 {
         count(self.priorities.len())
     }
 
-    /// The priorities of all vertices.
+    /// Returns the priorities of all vertices.
     pub(crate) fn priorities(&self) -> &[u32] {
         &self.priorities
     }
 
-    /// The priorities of all vertices; the rest is let go.
+    /// Returns the priorities of all vertices, and frees the rest of the graph.
     pub fn into_priorities(self) -> Vec<u32> {
         let Graph { priorities, .. } = self;
         priorities
     }
 
-    /// How many edges there are.
+    /// Returns the number of edges.
     pub fn edges(&self) -> u32 {
         count(self.successors.len())
     }
 
-    /// The priority of a vertex.
+    /// Returns the priority of a vertex, or `NONE` past the last vertex.
     #[inline(always)]
     pub fn priority(&self, v: u32) -> u32 {
         at(&self.priorities, v)
     }
 
-    /// Numbers the priorities of a part, which is given by rising priority, without gaps and from 0 or 1 on: where neighbours have one
-    /// parity they have one number. Gives the first number that none has.
+    /// Numbers the priorities of a part without gaps, from 0 or 1 on. The part is given by rising priority; neighbours whose
+    /// priorities have one parity get one number. Returns the number after the last one.
     pub(crate) fn compress(&self, part: &[u32], numbers: &mut [u32]) -> u32 {
         let mut number = 0u32;
         for v in part {
@@ -233,25 +234,25 @@ impl Graph {
         number.saturating_add(1)
     }
 
-    /// The owner of a vertex: 0 is Even, 1 is Odd.
+    /// Returns the owner of a vertex: 0 is Even, 1 is Odd.
     #[inline(always)]
     pub fn owner(&self, v: u32) -> u32 {
         at(&self.rows, v) % 2
     }
 
-    /// The successors of a vertex.
+    /// Returns the successors of a vertex.
     #[inline(always)]
     pub fn successors(&self, v: u32) -> &[u32] {
         between(&self.successors, self.row(v), self.row(v.saturating_add(1)))
     }
 
-    /// The predecessors of a vertex: one as often as it has edges to that.
+    /// Returns the predecessors of a vertex, each as often as it has edges to the vertex.
     #[inline(always)]
     pub fn predecessors(&self, v: u32) -> &[u32] {
         self.predecessors.targets(v)
     }
 
-    /// The vertices that led to themselves.
+    /// Returns the vertices that had an edge to themselves.
     pub fn loops(&self) -> &[u32] {
         &self.loops
     }

@@ -1,19 +1,19 @@
-//! Strategy improvement (Jens Vöge and Marcin Jurdziński, A Discrete Strategy Improvement Algorithm for Solving Parity Games, 2000),
+//! Strategy improvement (Jens Vöge and Marcin Jurdziński, A Discrete Strategy Improvement Algorithm for Solving Parity Games, 2000)
 //! where one player may stop (Sven Schewe, An Optimal Strategy Improvement Algorithm for Solving Parity Games, 2008), on a part of
 //! the graph.
 //!
-//! Before each vertex Even may stop. A play that stops has a worth: how often it met each priority. The greatest priority decides of two
-//! worths, where many even ones are good for Even, and few odd ones. Odd answers a strategy of Even as well as it can. Then Even
-//! improves the strategy wherever the worths tell that something else is better, and so on. No cycle is ever closed but such that Even
-//! wins; so what never stops in the end is won by Even, and the rest by Odd.
+//! Even may stop before each vertex. A play that stops has a worth: how often it met each priority. Of two worths, the greatest
+//! priority at which they differ decides: if it is even, more is better for Even, and if it is odd, less is. Odd answers a strategy
+//! of Even as well as it can. Then Even improves its strategy wherever the worths show that something else is better, and so on.
+//! The only cycles that are ever closed are those that Even wins; so Even wins what never stops in the end, and Odd wins the rest.
 
 use crate::graph::Graph;
 use crate::table::{FIRST, Table, WAITING};
 use pg_search_components::{NONE, at, count, put};
 use std::alloc::{AllocError, Global};
 
-/// A node of a tree that has a count at each leaf, on the left. Trees share nodes. The sum tells trees apart: it adds up a number
-/// for each count.
+/// A node of a tree with a count at each leaf, which keeps it on the left. Trees share nodes. The sum tells trees apart: it adds up
+/// a number for each count.
 #[derive(Clone, Copy)]
 struct Node {
     left: u32,
@@ -21,7 +21,7 @@ struct Node {
     sum: u64,
 }
 
-/// The tree of zeros, and each part of it.
+/// The tree of zeros, and each part of that tree.
 const ZERO: u32 = 0;
 
 const ZEROS: Node = Node {
@@ -30,7 +30,8 @@ const ZEROS: Node = Node {
     sum: 0,
 };
 
-/// The worth of a play that never stops; where no worth is known yet; and that of a vertex on the way that is followed.
+/// The worth of a play that never stops; a worth that isn't known yet; and the worth of a vertex on the path that is being
+/// followed.
 const FOREVER: u32 = u32::MAX;
 
 const UNKNOWN: u32 = u32::MAX - 1;
@@ -39,20 +40,21 @@ const MET: u32 = u32::MAX - 2;
 
 #[derive(Drop)]
 pub(crate) struct Improvement {
-    /// The leaf of each vertex' priority, where neighbours of one parity have one leaf; and half the leaves of a tree.
+    /// The leaf of the priority of each vertex, where neighbours of one parity share a leaf; and half the number of leaves of a
+    /// tree.
     leaves: Vec<u32>,
     half: u32,
-    /// All nodes of trees; the first one is that of zeros.
+    /// All nodes of trees; the first one is the tree of zeros.
     nodes: Vec<Node>,
-    /// The tree of each vertex.
+    /// The tree that is the worth of each vertex.
     worths: Vec<u32>,
-    /// What each vertex' owner chooses, and 1 for each vertex before which Even doesn't stop.
+    /// What the owner of each vertex chooses, and 1 for each vertex before which Even doesn't stop.
     choices: Vec<u32>,
     passes: Vec<u32>,
     path: Vec<u32>,
 }
 
-/// A number that looks random.
+/// Returns a number for a leaf that looks random.
 fn key(leaf: u32) -> u64 {
     let mixed = u64::from(leaf)
         .wrapping_add(1)
@@ -75,7 +77,7 @@ impl Improvement {
         })
     }
 
-    /// Begins with a part, which is given by rising priority: Even stops everywhere.
+    /// Begins with a part, whose vertices are given by rising priority. At first Even stops everywhere.
     pub fn begin(&mut self, graph: &Graph, table: &Table, part: &[u32]) {
         let leaves = graph.compress(part, &mut self.leaves);
         for v in part {
@@ -91,8 +93,8 @@ impl Improvement {
         }
     }
 
-    /// Goes on with the part until Even can't improve the strategy, and then puts each vertex into its winner's region; false where
-    /// more was looked at than `looks`.
+    /// Continues with the part until Even can't improve its strategy, and then puts each vertex into its winner's region. Returns
+    /// false if that takes more than `looks` looks.
     pub fn run(
         &mut self,
         graph: &Graph,
@@ -119,7 +121,7 @@ impl Improvement {
         Ok(false)
     }
 
-    /// Puts the vertices into regions by who wins them, with what is chosen.
+    /// Puts each vertex into its winner's region, and sets what is chosen there.
     fn show(&self, table: &mut Table, part: &[u32]) {
         for v in part {
             let loser_is_even = at(&self.worths, *v) != FOREVER;
@@ -132,7 +134,7 @@ impl Improvement {
         self.nodes.get(number as usize).copied().unwrap_or(ZEROS)
     }
 
-    /// The worth of a play that comes to a vertex.
+    /// Returns the worth of a play that comes to a vertex.
     fn worth(&self, v: u32) -> u32 {
         if at(&self.passes, v) == 1 {
             at(&self.worths, v)
@@ -141,7 +143,7 @@ impl Improvement {
         }
     }
 
-    /// The tree with one more at a leaf.
+    /// Returns the tree with one more at a leaf.
     fn add(&mut self, tree: u32, leaf: u32) -> Result<u32, AllocError> {
         let root = count(self.nodes.len());
         let mut node = self.node(tree);
@@ -166,7 +168,7 @@ impl Improvement {
         Ok(root)
     }
 
-    /// Whether a worth is less good for Even than another one.
+    /// Whether a worth is worse for Even than another.
     fn is_less(&self, worth: u32, other: u32) -> bool {
         if worth == other || worth == FOREVER || other == FOREVER {
             return worth != other && other == FOREVER;
@@ -193,7 +195,7 @@ impl Improvement {
         (a.left < b.left) == (leaf != 1)
     }
 
-    /// Finds the worth of each vertex as both players choose.
+    /// Finds the worth of each vertex under the choices of both players.
     fn find_worths(&mut self, part: &[u32]) -> Result<(), AllocError> {
         self.nodes.clear();
         self.nodes.push(ZEROS)?;
@@ -206,7 +208,7 @@ impl Improvement {
         Ok(())
     }
 
-    /// Finds the worths of a vertex and of those behind it.
+    /// Finds the worths of a vertex and of those after it on its path.
     fn follow(&mut self, v: u32) -> Result<(), AllocError> {
         let mut v = v;
         for _ in 0..u64::MAX {
@@ -237,7 +239,7 @@ impl Improvement {
         Ok(())
     }
 
-    /// Lets Even go on wherever that is better than to stop; whether it does so anywhere anew.
+    /// Lets Even go on wherever that is better than stopping. Returns whether Even goes on anywhere where it stopped before.
     fn go_on(&mut self, part: &[u32]) -> bool {
         let mut goes_on = false;
         for v in part {
@@ -249,7 +251,7 @@ impl Improvement {
         goes_on
     }
 
-    /// Lets a player choose what is best for it; whether that is new anywhere.
+    /// Lets a player choose what is best for it. Returns whether any choice is new.
     fn switch(&mut self, graph: &Graph, table: &mut Table, part: &[u32], player: u32) -> bool {
         let mut is_new = false;
         for v in part {

@@ -1,5 +1,5 @@
-//! Who wins each vertex of a game, how, and an order that shows it. Nothing is promised of what is found but that it is found
-//! safely and in the end: who wants to believe it looks at the order.
+//! Finds who wins each vertex of a game, how, and an order that shows it. The search is safe and ends, but nothing else is promised
+//! of what it finds: whoever wants to believe that checks the order.
 #![tactic(auto)]
 
 mod arranging;

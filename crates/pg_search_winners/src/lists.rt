@@ -1,9 +1,9 @@
-//! Lists of vertices, which are put together at no cost.
+//! Lists of vertices that are joined at no cost.
 
 use pg_search_components::{NONE, at, put};
 use std::alloc::{AllocError, Global};
 
-/// A list by its first and its last vertex.
+/// A list, given by its first and its last vertex and its length.
 #[derive(Clone, Copy)]
 pub(crate) struct List {
     pub first: u32,
@@ -32,13 +32,13 @@ impl Sides {
         odd: List::EMPTY,
     };
 
-    /// The list of a player.
+    /// Returns the list of a player.
     #[inline(always)]
     pub fn of(&self, player: u32) -> List {
         if player == 0 { self.even } else { self.odd }
     }
 
-    /// Gives a player a list.
+    /// Sets the list of a player.
     #[inline(always)]
     pub fn set(&mut self, player: u32, list: List) {
         if player == 0 {
@@ -49,7 +49,7 @@ impl Sides {
     }
 }
 
-/// The vertices before and behind each one in its list. Before one that is in no list stands itself.
+/// The vertices before and after each vertex in its list. A vertex that is in no list has itself before it.
 #[derive(Drop)]
 pub(crate) struct Links {
     befores: Vec<u32>,
@@ -68,7 +68,7 @@ impl Links {
         })
     }
 
-    /// The vertex behind one in its list.
+    /// Returns the vertex after a given one in its list.
     #[inline(always)]
     pub fn next(&self, v: u32) -> u32 {
         at(&self.nexts, v)
@@ -80,7 +80,7 @@ impl Links {
         put(&mut self.befores, v, v);
     }
 
-    /// Puts a list behind another one.
+    /// Appends `other` to `list`, and returns the joined list.
     pub fn join(&mut self, list: List, other: List) -> List {
         if list.len == 0 {
             return other;
@@ -97,7 +97,7 @@ impl Links {
         }
     }
 
-    /// Puts vertices behind a list.
+    /// Appends vertices to a list, and returns it.
     pub fn append(&mut self, list: List, vertices: &[u32]) -> List {
         let mut list = list;
         for v in vertices {
@@ -113,7 +113,7 @@ impl Links {
         list
     }
 
-    /// Takes those of the vertices out of a list that are in one.
+    /// Removes the vertices that are in a list from it, and returns it. Those in no list are skipped.
     pub fn remove(&mut self, list: List, vertices: &[u32]) -> List {
         let mut list = list;
         for v in vertices {

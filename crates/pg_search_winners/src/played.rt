@@ -1,16 +1,17 @@
-//! Edges that are left where a player goes as it chose.
+//! The edges that are left when a player moves as it chose.
 
 use crate::graph::Graph;
 use pg_search_components::{Edges, at, between};
 
-/// The edges inside a region, where its player goes as it chose.
+/// The edges inside a region, where its player moves as it chose.
 #[derive(Clone, Copy)]
 pub struct Played<'a> {
     pub graph: &'a Graph,
+    /// What the player chooses at each of its vertices.
     pub choices: &'a [u32],
     /// The region of each vertex.
     pub regions: &'a [u32],
-    /// Even is 0, Odd is 1.
+    /// The player of the region: Even is 0, Odd is 1.
     pub player: u32,
     pub region: u32,
 }

@@ -1,10 +1,10 @@
-//! Priority promotion (Massimo Benerecetti, Daniele Dell'Erba and Fabio Mogavero, Solving Parity Games via Priority Promotion, 2018), on a
-//! part of the graph.
+//! Priority promotion (Massimo Benerecetti, Daniele Dell'Erba and Fabio Mogavero, Solving Parity Games via Priority Promotion, 2018),
+//! on a part of the graph.
 //!
-//! A region is made of free vertices: those of the greatest priority, its heads, and what their player attracts to these. Regions are made
-//! until one is closed: its player can stay there, and the opponent can't go from there to what is free. Where the opponent can go to
-//! earlier regions, the closed one joins the last of these, and what came between is free again. Where it can't, the player wins the
-//! region.
+//! A region consists of free vertices: those of the greatest priority, its heads, and what their player attracts to these. Regions
+//! are made until one is closed: its player can stay there, and the opponent can't go from there to a free vertex. If the opponent
+//! can go to earlier regions, the closed region joins the last of these, and what came between is free again. If it can't, the
+//! player wins the region.
 
 use crate::graph::Graph;
 use crate::table::{Attraction, FIRST, FREE, Table};
@@ -15,20 +15,20 @@ use std::alloc::{AllocError, Global};
 #[derive(Clone, Copy)]
 struct Region {
     player: u32,
-    /// Its place on the stack, from `FIRST` on, by which its vertices are marked.
+    /// Its place on the stack, from `FIRST` on, which marks its vertices.
     mark: u32,
-    /// Where its vertices begin, heads first, and how many heads there are.
+    /// Where its vertices begin, heads first, and the number of heads.
     begin: usize,
     heads: usize,
-    /// The place behind its first head in the part.
+    /// The place after its first head in the part.
     place: u32,
 }
 
 #[derive(Drop)]
 pub(crate) struct Promotion {
-    /// What is known of the vertices here: who won them, or in which region they are.
+    /// What is known of the vertices here: who won them, or which region they are in.
     table: Table,
-    /// The place in the part behind the next head.
+    /// The place after the next head in the part.
     place: u32,
     /// The regions, and the vertices of all of them.
     regions: Vec<Region>,
@@ -45,7 +45,7 @@ impl Promotion {
         })
     }
 
-    /// Begins with a part, which is given by rising priority.
+    /// Begins with a part, whose vertices are given by rising priority.
     pub fn begin(&mut self, part: &[u32]) {
         for v in part {
             self.table.mark(*v, FREE);
@@ -53,7 +53,7 @@ impl Promotion {
         self.begin_again(part);
     }
 
-    /// Frees what isn't won.
+    /// Frees the vertices that aren't won.
     fn begin_again(&mut self, part: &[u32]) {
         self.place = count(part.len());
         self.regions.clear();
@@ -66,8 +66,8 @@ impl Promotion {
         self.table.look(part.len());
     }
 
-    /// Goes on with the part until all is won, and then puts each vertex into its winner's region; false where more was looked at than
-    /// `looks`.
+    /// Continues with the part until all is won, and then puts each vertex into its winner's region. Returns false if that takes
+    /// more than `looks` looks.
     pub fn run(
         &mut self,
         graph: &Graph,
@@ -96,7 +96,7 @@ impl Promotion {
         Ok(false)
     }
 
-    /// Puts the vertices into regions by who won them, with what is chosen.
+    /// Puts each vertex into its winner's region, and sets what is chosen there.
     fn show(&self, table: &mut Table, part: &[u32]) {
         for v in part {
             table.mark(*v, FIRST.saturating_add(self.table.region(*v)));
@@ -104,7 +104,7 @@ impl Promotion {
         }
     }
 
-    /// Makes the next region; false where nothing is free.
+    /// Makes the next region. Returns false if no vertex is free.
     fn descend(&mut self, graph: &Graph, part: &[u32]) -> Result<bool, AllocError> {
         let before = self.place;
         let mut region = Region {
@@ -139,7 +139,7 @@ impl Promotion {
         Ok(region.heads > 0)
     }
 
-    /// Attracts what is free to the vertices of the last region from a place on.
+    /// Attracts free vertices to the vertices of the last region, from a place on.
     fn attract(&mut self, graph: &Graph, region: Region, from: usize) -> Result<(), AllocError> {
         let attraction = Attraction {
             player: region.player,
@@ -150,7 +150,7 @@ impl Promotion {
             .attract(graph, &mut self.vertices, from, attraction)
     }
 
-    /// Whether the last region is closed, which its heads tell. Then its player chooses there.
+    /// Whether the last region is closed, which its heads decide. If it is, the choices of its player at the heads are set.
     fn is_closed(&mut self, graph: &Graph, region: Region) -> bool {
         for head in from(&self.vertices, region.begin).iter().take(region.heads) {
             let row = graph.successors(*head);
@@ -175,7 +175,8 @@ impl Promotion {
         true
     }
 
-    /// The last one of the earlier regions to which the opponent can go from the last region, by its mark; 0 where there is none.
+    /// Returns the mark of the last of the earlier regions to which the opponent can go from the last region, or 0 if there is
+    /// none.
     fn way_out(&mut self, graph: &Graph, region: Region) -> u32 {
         let mut way = 0;
         for v in from(&self.vertices, region.begin) {
@@ -197,7 +198,7 @@ impl Promotion {
         way
     }
 
-    /// Lets the last region join an earlier one, and frees what is between.
+    /// Joins the last region to an earlier one, and frees what is between.
     fn promote(&mut self, graph: &Graph, region: Region, mark: u32) -> Result<(), AllocError> {
         let level = mark.saturating_sub(FIRST) as usize;
         let end = match self.regions.get(level.saturating_add(1)) {
@@ -225,7 +226,7 @@ impl Promotion {
         self.attract(graph, target, end)
     }
 
-    /// Gives a region to its player, with all that it attracts, and begins again with the rest.
+    /// Gives a region to its player, with all that the region attracts, and begins again with the rest.
     fn win(&mut self, graph: &Graph, part: &[u32], region: Region) -> Result<(), AllocError> {
         let player = region.player;
         for v in from(&self.vertices, region.begin) {

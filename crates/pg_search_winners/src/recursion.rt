@@ -1,16 +1,16 @@
-//! Zielonka's recursion (Theoretical Computer Science 200, 1998) without recursion, on a part of the graph.
+//! Zielonka's recursion (Theoretical Computer Science 200, 1998) without recursive calls, on a part of the graph.
 //!
-//! A level takes the free vertices of the greatest priority, its heads, and what they attract for the player of that priority;
-//! so, too, those of the next priorities as long as these are the same player's. What is left is the game of the next level.
-//! Where the opponent wins nothing there that attracts more of the level, the player wins the level. Else that is taken out, and
-//! the level begins again with what is left.
+//! A level takes the free vertices of the greatest priority, its heads, and what they attract for the player of that priority. It
+//! then does the same with the next priorities, as long as they belong to the same player. What is left is the game of the next
+//! level. If the opponent wins nothing there that attracts more of the level, the player wins the level. Otherwise that is taken
+//! out, and the level begins again with what is left.
 //!
-//! Then the next level's game isn't begun from nothing. What the player won there as it chose is still won, where it leads to nothing
-//! but such vertices: it is kept, with what it attracts, and only the rest is gone through.
+//! The game of the next level then doesn't begin from nothing. What the player won there by its choices is still won where it leads
+//! only to such vertices: it is kept, with what it attracts, and only the rest is searched again.
 //!
-//! Each list that is won stands in an order that shows it: the heads, what they attract, and then what is won in the next level;
-//! what an opponent takes out of a level stands behind what it took before. Edges lead to places before, but those of heads, behind
-//! which there is nothing greater up to where they lead.
+//! Each list that is won stands in an order that shows it: the heads, what they attract, and then what is won in the next level.
+//! What an opponent takes out of a level stands after what it took before. Edges lead to earlier places, except those of heads;
+//! after a head nothing greater stands up to where its edges lead.
 
 use crate::graph::Graph;
 use crate::lists::{Links, List, Sides};
@@ -23,14 +23,15 @@ use std::mem;
 #[derive(Clone, Copy)]
 struct Level {
     player: u32,
-    /// The least region of its game: that of what it attracts for Even. That of a player's has the player as its remainder by 2.
+    /// The least region of its game: the region of what it attracts for Even. The remainder of a region by 2 is the player whose
+    /// region it is.
     base: u32,
     /// The least priority of its heads.
     least: u32,
-    /// Where its vertices begin in the list of all that levels attracted, and its heads in the list of heads.
+    /// Where its vertices begin in the list of all attracted vertices, and its heads in the list of heads.
     attracted: usize,
     heads: usize,
-    /// Its part of the list of vertices by priority, and the place behind its first head there.
+    /// Its part of the list of vertices by priority, and the place after its first head there.
     from: u32,
     to: u32,
     place: u32,
@@ -39,25 +40,25 @@ struct Level {
 }
 
 impl Level {
-    /// The region of what it attracts.
+    /// Returns the region of what it attracts.
     #[inline(always)]
     fn mark(&self) -> u32 {
         self.base.saturating_add(self.player)
     }
 
-    /// The least region of the game above it.
+    /// Returns the least region of the game above it.
     #[inline(always)]
     fn above(&self) -> u32 {
         self.base.saturating_add(2)
     }
 
-    /// The region of what its opponent takes out of it.
+    /// Returns the region of what its opponent takes out of it.
     #[inline(always)]
     fn mark_of_taken(&self) -> u32 {
         self.base.saturating_sub(2).saturating_add(self.player ^ 1)
     }
 
-    /// A successor of a vertex in its game that a player has, or `NONE`.
+    /// Returns a successor of a vertex in the game of this level that a player has, or `NONE`.
     #[inline(always)]
     fn choice(&self, graph: &Graph, table: &mut Table, v: u32, player: u32) -> u32 {
         let row = graph.successors(v);
@@ -72,31 +73,31 @@ impl Level {
     }
 }
 
-/// Each level begins with a region that is this much greater than that of any level before it.
+/// How much greater the least region of a level is than that of any level before it.
 const STEP: u32 = 4;
 
 #[derive(Drop)]
 pub(crate) struct Recursion {
-    /// Vertices by rising priority: those of the part, and behind them those of levels that began again with few.
+    /// Vertices by rising priority: those of the part, and after them those of levels that began again with few vertices.
     order: Vec<u32>,
-    /// How many vertices the part has.
+    /// The number of vertices in the part.
     many: usize,
-    /// Where in it the vertices begin that the next level may take, and the place behind the next of them.
+    /// Where the vertices that the next level may take begin and end in the order, and the place after the next of them.
     from: u32,
     to: u32,
     place: u32,
     levels: Vec<Level>,
     /// The least region of the last level that began.
     base: u32,
-    /// What all levels attracted, and the heads among that.
+    /// The vertices that all levels attracted, and the heads among them.
     attracted: Vec<u32>,
     heads: Vec<u32>,
-    /// What a level's opponent takes, or what is attracted to what is kept.
+    /// The vertices that a level's opponent takes, or that are attracted to what is kept.
     taken: Vec<u32>,
-    /// What is to be gone through again.
+    /// The vertices that are searched again.
     free: Vec<u32>,
     links: Links,
-    /// What was won above the last level, and whether that is all that is to be won there.
+    /// What was won above the last level, and whether that is all that can be won there.
     won: Sides,
     is_ending: bool,
 }
@@ -121,12 +122,12 @@ impl Recursion {
         })
     }
 
-    /// The vertex behind one in its list.
+    /// Returns the vertex after a given one in its list.
     pub fn next(&self, v: u32) -> u32 {
         self.links.next(v)
     }
 
-    /// Begins with vertices that are free, and given by rising priority.
+    /// Begins with free vertices, which are given by rising priority.
     pub fn begin(&mut self, vertices: &[u32]) -> Result<(), AllocError> {
         self.order.clear();
         self.order.extend_from_slice(vertices)?;
@@ -134,7 +135,8 @@ impl Recursion {
         Ok(())
     }
 
-    /// The same with a list that isn't needed elsewhere until recursion gives up.
+    /// Begins with free vertices, which are given by rising priority, in a list that isn't needed elsewhere until the recursion
+    /// gives up.
     pub fn begin_with(&mut self, vertices: Vec<u32>) {
         self.order = vertices;
         self.restart();
@@ -157,14 +159,14 @@ impl Recursion {
         self.is_ending = false;
     }
 
-    /// The vertices that it began with, by rising priority.
+    /// Returns the vertices that it began with, by rising priority.
     pub fn give_up(&mut self, alloc: Global) -> Vec<u32> {
         let mut vertices = mem::replace(&mut self.order, Vec::new(alloc));
         vertices.truncate(self.many);
         vertices
     }
 
-    /// Lets go of all but the lists that were won.
+    /// Frees everything but the lists that were won.
     pub fn let_go(&mut self, alloc: Global) {
         self.order = Vec::new(alloc);
         self.attracted = Vec::new(alloc);
@@ -173,7 +175,8 @@ impl Recursion {
         self.free = Vec::new(alloc);
     }
 
-    /// What each player wins of the vertices that it began with; none where more was looked at than `looks`: then it can go on.
+    /// Returns what each player wins of the vertices that it began with. Returns `None` if no regions are left, or if that takes
+    /// more than `looks` looks, after which it can continue.
     pub fn run(
         &mut self,
         graph: &Graph,
@@ -197,7 +200,7 @@ impl Recursion {
         Ok(Some(self.won))
     }
 
-    /// The free vertex of the greatest priority, or `NONE`.
+    /// Returns the free vertex of the greatest priority, or `NONE`.
     fn next_head(&mut self, table: &mut Table) -> u32 {
         let before = self.place;
         let mut head = NONE;
@@ -231,7 +234,7 @@ impl Recursion {
         self.fill(graph, table, level, FREE)
     }
 
-    /// Takes the heads of a level and what they attract of regions from `low` on, and puts the level on top of the others.
+    /// Takes the heads of a level and what they attract from the regions from `low` on, and puts the level on top of the others.
     fn fill(
         &mut self,
         graph: &Graph,
@@ -296,8 +299,8 @@ impl Recursion {
         self.list(graph, level)
     }
 
-    /// Gives the opponent of a level what it won above it, and what that attracts of the level. The latter is taken, behind some of
-    /// the former, whose number is given.
+    /// Gives the opponent of a level what it won above it, and what that attracts of the level. The latter is in `taken`, after
+    /// some of the former; returns how many these are.
     fn take(
         &mut self,
         graph: &Graph,
@@ -347,8 +350,8 @@ impl Recursion {
         Ok(())
     }
 
-    /// Finds those vertices of a level that its opponent attracts at once to what it won above: it owns them and leads there, or they
-    /// are heads that lead nowhere else.
+    /// Finds the vertices of a level that its opponent attracts at once to what it won above: those that it owns and that lead
+    /// there, and heads that lead nowhere else.
     fn find_lost(
         &mut self,
         graph: &Graph,
@@ -373,7 +376,8 @@ impl Recursion {
         Ok(())
     }
 
-    /// Sees to it that what the opponent of a level won above it is in regions before the level: it or the rest is marked anew.
+    /// Makes sure that what the opponent of a level won above it is in regions before the level: either that or the rest is marked
+    /// anew.
     fn leave_behind(&mut self, table: &mut Table, level: &mut Level, piece: List) {
         let block = from(&self.attracted, level.attracted);
         let mine = self.won.of(level.player);
@@ -400,7 +404,7 @@ impl Recursion {
         table.look(list.len as usize);
     }
 
-    /// Lets a level, some of which was taken, attract anew: among what it attracted before and what its player won above it.
+    /// Lets a level from which something was taken attract anew, among what it attracted before and what its player won above it.
     fn attract_anew(
         &mut self,
         graph: &Graph,
@@ -426,7 +430,7 @@ impl Recursion {
         Ok(())
     }
 
-    /// Frees what a level's player won above it and that may lead to what is free, or chose what was taken.
+    /// Frees what a level's player won above it that may lead to free vertices, or where it chose a vertex that was taken.
     fn loosen(
         &mut self,
         graph: &Graph,
@@ -474,7 +478,7 @@ impl Recursion {
         Ok(())
     }
 
-    /// Keeps what a level's player won above it and that isn't free, with what it attracts.
+    /// Keeps what a level's player won above it and that isn't free, with what that attracts.
     fn keep(&mut self, graph: &Graph, table: &mut Table, level: Level) -> Result<(), AllocError> {
         let player = level.player;
         let mut won = Sides::EMPTY;
@@ -511,7 +515,8 @@ impl Recursion {
         Ok(())
     }
 
-    /// Lists what is free by rising priority, behind the order of a level where it is few; else it is found in that order.
+    /// Lists the free vertices by rising priority after the order of a level if they are few; otherwise they are found in that
+    /// order.
     fn list(&mut self, graph: &Graph, level: Level) -> Result<(), AllocError> {
         self.order.truncate(level.to as usize);
         self.from = level.from;
@@ -527,7 +532,7 @@ impl Recursion {
         Ok(())
     }
 
-    /// Gives a level to its player: the heads and what they attract, and what the player won above it.
+    /// Gives a level to its player: the heads, what they attract, and what the player won above it.
     fn win(&mut self, graph: &Graph, table: &mut Table, level: Level) {
         let player = level.player;
         for head in from(&self.heads, level.heads) {

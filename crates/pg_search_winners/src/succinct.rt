@@ -1,37 +1,39 @@
 //! Succinct progress measures (Marcin Jurdziński and Ranko Lazić, Succinct Progress Measures for Solving Parity Games, 2017), on a part
 //! of the graph.
 //!
-//! A measure of a player has a list of bits for each priority of the opponent, the greatest first. All its lists together have no more
-//! bits than the number of vertices has in binary. Where lists part, 0 is less than the end of the list, and that is less than 1. So there
-//! are quasi-polynomially many measures. They are lifted from the least one on. A player wins the vertices that aren't lifted to top.
+//! A measure of a player has a list of bits for each priority of the opponent, the greatest first. All its lists together have no
+//! more bits than the number of vertices has in binary. Where two lists part, 0 is less than the end of the list, and that is less
+//! than 1. So there are quasi-polynomially many measures. They are lifted from the least one on. A player wins the vertices that
+//! aren't lifted to top.
 
 use crate::graph::Graph;
 use crate::table::{FIRST, Table, WAITING};
 use pg_search_components::{NONE, at, between, count, put};
 use std::alloc::{AllocError, Global};
 
-/// Each number of the measure top.
+/// Every number of the measure top.
 const TOP: u32 = u32::MAX;
 
-/// A measure is so many numbers: a bit 0 of list k is k, a bit 1 is twice the number of lists less k, and where no bit stands any more is
-/// the number of lists. So measures are compared number by number.
+/// A measure consists of `width` numbers. A bit 0 of list k is the number k, a bit 1 is twice the number of lists minus k, and
+/// after the last bit there is the number of lists. So measures are compared number by number.
 #[derive(Drop)]
 pub(crate) struct Succinct<'a> {
     graph: &'a Graph,
-    /// The place of each vertex in the part, and its priority, where neighbours of one parity have one; and one greater than all.
+    /// The place of each vertex in the part; its priority, numbered so that neighbours of one parity share a number; and a number
+    /// greater than all of these.
     places: Vec<u32>,
     priorities: Vec<u32>,
     end: u32,
     /// How many numbers a measure has.
     width: u32,
-    /// The measures of Even by places, and then those of Odd.
+    /// The measures of Even by places, and then the measures of Odd.
     numbers: Vec<u32>,
-    /// The measure that a vertex is to have.
+    /// The measure that a vertex gets next.
     next: Vec<u32>,
 }
 
 impl<'a> Succinct<'a> {
-    /// The least measures of a part, which is given by rising priority.
+    /// Begins with the least measures of a part, whose vertices are given by rising priority.
     pub fn new(alloc: Global, graph: &'a Graph, part: &[u32]) -> Result<Succinct<'a>, AllocError> {
         let mut places = vec![in alloc; NONE; graph.len() as usize]?;
         for (place, v) in part.iter().enumerate() {
@@ -52,7 +54,7 @@ impl<'a> Succinct<'a> {
         })
     }
 
-    /// Where the measure of a vertex begins.
+    /// Returns where the measure of a vertex begins.
     fn place(&self, player: u32, v: u32) -> u32 {
         let half = count(self.numbers.len() / 2);
         let place = at(&self.places, v).saturating_mul(self.width);
@@ -64,7 +66,7 @@ impl<'a> Succinct<'a> {
         between(&self.numbers, place, place.saturating_add(self.width))
     }
 
-    /// The successor of a vertex that is best for its owner.
+    /// Returns the successor of a vertex that is best for its owner.
     fn best(&self, table: &Table, player: u32, v: u32) -> u32 {
         let mut best = NONE;
         for w in self.graph.successors(v) {
@@ -77,14 +79,14 @@ impl<'a> Succinct<'a> {
         best
     }
 
-    /// Puts a number to the places of the next measure from one on.
+    /// Sets the next measure to a number from a place on.
     fn fill(&mut self, from: u32, number: u32) {
         for place in from..self.width {
             put(&mut self.next, place, number);
         }
     }
 
-    /// Raises the next measure to the least one that has no less in the first lists; that has more, where it rises.
+    /// Raises the next measure to the least one that isn't less in the first lists, and that is greater there if `rises`.
     fn step(&mut self, lists: u32, first: u32, rises: bool) {
         let mut end = 0u32;
         for bit in &self.next {
@@ -114,7 +116,7 @@ impl<'a> Succinct<'a> {
         self.fill(0, TOP);
     }
 
-    /// Lifts a vertex; whether it rises.
+    /// Lifts a vertex. Returns whether it rises.
     fn lift(&mut self, table: &Table, player: u32, v: u32) -> Result<bool, AllocError> {
         let from = self.place(player, self.best(table, player, v));
         let to = self.place(player, v);
@@ -138,8 +140,8 @@ impl<'a> Succinct<'a> {
         Ok(rises)
     }
 
-    /// Goes on with the part until nothing rises any more, and then puts each vertex into its winner's region; false where more was looked
-    /// at than `looks`.
+    /// Continues with the part until nothing rises any more, and then puts each vertex into its winner's region. Returns false if
+    /// that takes more than `looks` looks.
     pub fn run(&mut self, table: &mut Table, part: &[u32], looks: u64) -> Result<bool, AllocError> {
         let most = table.looks.saturating_add(looks);
         let mut rises = true;

@@ -4,18 +4,18 @@ use crate::graph::Graph;
 use pg_search_components::{NONE, at, count, put};
 use std::alloc::{AllocError, Global};
 
-/// The region of a vertex that Even or Odd wins is 0 or 1. Then come those that wait, the regions that a method makes for the
-/// time that it needs, from `FIRST` on, and what is free for the method.
+/// The region of a vertex is 0 if Even wins it, and 1 if Odd does. Then comes the region of vertices that wait, then, from `FIRST`
+/// on, the regions that a method makes for as long as it needs them, and last the region of what is free for the method.
 pub(crate) const WAITING: u32 = 2;
 
 pub(crate) const FIRST: u32 = 4;
 
 pub(crate) const FREE: u32 = u32::MAX;
 
-/// Rows of more successors are gone through from where the last search in them ended.
+/// Rows with more successors than this are searched from where the last search in them ended.
 const NARROW: usize = 16;
 
-/// Which vertices an attractor takes: for a player, those of regions from `low` on, to the region `mark`, which is lower.
+/// Which vertices an attractor takes: for a player, those in regions from `low` on, into the region `mark`, which is lower.
 #[derive(Clone, Copy)]
 pub(crate) struct Attraction {
     pub player: u32,
@@ -26,18 +26,18 @@ pub(crate) struct Attraction {
 #[derive(Drop)]
 pub(crate) struct Table {
     pub regions: Vec<u32>,
-    /// What the winner, or who may become it, chooses at each vertex.
+    /// What the winner, or the player who may become it, chooses at each vertex.
     pub choices: Vec<u32>,
-    /// Where the last search in each row ended; no numbers where no row is long.
+    /// Where the last search in each row ended; empty if no row is long.
     hints: Vec<u32>,
-    /// How many vertices and edges were looked at.
+    /// The number of vertices and edges that were looked at.
     pub looks: u64,
-    /// What `look_ahead` saw last, which nobody asks for.
+    /// What `look_ahead` saw last, which nothing reads.
     seen: u32,
 }
 
 impl Table {
-    /// A table in which all vertices wait.
+    /// Makes a table in which all vertices wait.
     pub fn new(alloc: Global, graph: &Graph) -> Result<Table, AllocError> {
         let all = graph.len() as usize;
         let is_wide = (0..graph.len()).any(|v| graph.successors(v).len() > NARROW);
@@ -51,7 +51,7 @@ impl Table {
         })
     }
 
-    /// The region of a vertex.
+    /// Returns the region of a vertex.
     #[inline(always)]
     pub fn region(&self, v: u32) -> u32 {
         at(&self.regions, v)
@@ -63,13 +63,13 @@ impl Table {
         put(&mut self.regions, v, region);
     }
 
-    /// Notes that so much was looked at.
+    /// Counts `many` looks.
     #[inline(always)]
     pub fn look(&mut self, many: usize) {
         self.looks = self.looks.wrapping_add(many as u64);
     }
 
-    /// The first of some vertices that is in the region `low` or a later one.
+    /// Returns the first of some vertices that is in the region `low` or a later one.
     #[inline(always)]
     pub fn first_from(&self, row: &[u32], low: u32) -> Option<u32> {
         for w in row {
@@ -89,7 +89,7 @@ impl Table {
         self.first_from(row, low).is_some()
     }
 
-    /// The same for a long row.
+    /// Whether a vertex with this long row leads into the region `low` or a later one.
     fn leads_by_hint(&mut self, v: u32, row: &[u32], low: u32) -> bool {
         let mut place = at(&self.hints, v);
         for _ in 0..row.len() {
@@ -105,7 +105,7 @@ impl Table {
         false
     }
 
-    /// Attracts predecessors of a vertex.
+    /// Attracts predecessors of a vertex, and lists them.
     #[inline(always)]
     pub fn pull(
         &mut self,
@@ -134,7 +134,7 @@ impl Table {
         Ok(())
     }
 
-    /// Attracts to the vertices of the list from a place on, and lists what is attracted.
+    /// Attracts to the vertices of the list, from a place on, and appends what is attracted to it.
     pub fn attract(
         &mut self,
         graph: &Graph,
@@ -152,7 +152,7 @@ impl Table {
         Ok(())
     }
 
-    /// Reads what will be wanted soon, so that it isn't waited for then.
+    /// Reads what is needed soon, so that nothing has to wait for it then.
     #[inline(always)]
     fn look_ahead(&mut self, graph: &Graph, list: &[u32], place: usize) {
         let mut seen = 0;

@@ -9,36 +9,40 @@ use std::alloc::{AllocError, Global};
 
 /// Who wins each vertex, how, and an order that shows it.
 ///
-/// The vertices that a player wins stand in its list. Those edges of them count where their owner loses, and those that the winner
-/// chose. An edge that counts leads from a place to a place of the same list that is before the sum of its place and its vertex'
-/// span. A vertex with a span has a priority of its winner's parity, and none is greater up to the end of the span, nor does a
-/// span end behind it that begins there. So the greatest priority of each cycle is the winner's.
+/// The vertices that a player wins stand in its list. Their edges count where the loser owns the vertex, and where the winner chose
+/// them. An edge that counts leads from a place to a place of the same list that is before the sum of its place and the span of its
+/// vertex. A vertex with a span has a priority of its winner's parity; up to the end of the span no priority is greater, and no
+/// span that begins there ends after it. So the greatest priority of each cycle is the winner's.
 #[derive(Drop)]
 pub struct Winners {
     pub winner: Vec<Player>,
-    /// What the winner chooses at each vertex of its own, and `NONE` at those of the loser.
+    /// What the winner chooses at each of its own vertices, and `NONE` at the loser's.
     pub choice: Vec<u32>,
+    /// The vertices that Even wins, in order.
     pub of_even: Vec<u32>,
+    /// The vertices that Odd wins, in order.
     pub of_odd: Vec<u32>,
+    /// The span of each vertex, or 0 if it has none.
     pub span: Vec<u32>,
-    /// Whether each vertex stands in a list, as always but where all methods gave up.
+    /// Whether each vertex stands in a list, which is always so unless all methods gave up.
     pub is_ordered: bool,
 }
 
-/// Who wins each vertex, as `Winners` says it, in one order: what Even wins, and behind it what Odd wins.
+/// Who wins each vertex, as in `Winners`, but in one order: what Even wins, and after it what Odd wins.
 #[derive(Drop)]
 pub struct WinningOrder {
-    /// The place of each vertex, if each stands in the order, as always but where all methods gave up.
+    /// The place of each vertex, if each stands in the order, which is always so unless all methods gave up.
     pub places: Vec<u32>,
-    /// The height of what stands at each place, which is even where the priority is the winner's, and before which place its edges lead.
+    /// For each place, the height of the vertex there, which is even where the priority is the winner's, and the place before which
+    /// its edges lead.
     pub spans: Vec<Span>,
-    /// Where what Odd wins begins.
+    /// The place where what Odd wins begins.
     pub split: u32,
-    /// What the winner chooses at each vertex of its own.
+    /// What the winner chooses at each of its own vertices.
     pub choices: Vec<u32>,
 }
 
-/// The winners of a graph, in which each vertex has a successor.
+/// Finds the winners of a graph in which each vertex has a successor.
 pub fn find_winners(alloc: Global, graph: &Graph) -> Result<Winners, AllocError> {
     let mut solver = Solver::new(alloc, graph)?;
     solver.run()?;
@@ -67,14 +71,14 @@ pub fn find_winners(alloc: Global, graph: &Graph) -> Result<Winners, AllocError>
     })
 }
 
-/// The winners of a graph, in which each vertex has a successor, by their order. The graph is let go as soon as they are found.
+/// Finds the winners of a graph in which each vertex has a successor, in one order. The graph is freed as soon as they are found.
 pub fn find_order(alloc: Global, graph: Graph) -> Result<WinningOrder, AllocError> {
     let mut solver = Solver::new(alloc, &graph)?;
     solver.run()?;
     let (table, orders) = solver.into_parts();
     let spans = find_spans(alloc, &graph.into_priorities(), &orders)?;
     let split = count(orders.even.len());
-    // the place tells the region
+    // the place shows the region
     let mut places = table.regions;
     place_from(0, &orders.even, &mut places);
     place_from(split, &orders.odd, &mut places);
@@ -86,7 +90,7 @@ pub fn find_order(alloc: Global, graph: Graph) -> Result<WinningOrder, AllocErro
     })
 }
 
-/// Gives vertices places one after another, from a first one on.
+/// Gives vertices consecutive places, from a first one on.
 fn place_from(first: u32, vertices: &[u32], places: &mut [u32]) {
     let mut place = first;
     for v in vertices {
@@ -95,7 +99,7 @@ fn place_from(first: u32, vertices: &[u32], places: &mut [u32]) {
     }
 }
 
-/// The spans of all places: those of Even's list, and behind them those of Odd's.
+/// Returns the spans of all places: those of Even's list, and after them those of Odd's.
 fn find_spans(alloc: Global, priorities: &[u32], orders: &Orders) -> Result<Vec<Span>, AllocError> {
     let mut spans = Vec::with_capacity(alloc, priorities.len())?;
     add_spans(alloc, priorities, &orders.even, 2, &mut spans)?;
@@ -103,8 +107,8 @@ fn find_spans(alloc: Global, priorities: &[u32], orders: &Orders) -> Result<Vec<
     Ok(spans)
 }
 
-/// Adds the spans of a player's list, whose heights are the priorities raised so much. Those of even heights reach up to the next
-/// greater one in the list.
+/// Appends the spans of a player's list. The heights are the priorities plus `raised`; the spans of even heights reach up to the
+/// next greater height in the list.
 fn add_spans(
     alloc: Global,
     priorities: &[u32],
@@ -120,7 +124,7 @@ fn add_spans(
         })?;
     }
     let all = count(spans.len());
-    // of the places behind, those that no greater height stands before
+    // of the later places, those before which no greater height stands
     let mut greatest: Vec<u32> = Vec::new(alloc);
     for place in (first..all).rev() {
         let height = height_of(spans, place);
@@ -143,7 +147,7 @@ fn add_spans(
     Ok(())
 }
 
-/// The height at a place.
+/// Returns the height at a place, or `NONE` past the last place.
 #[inline(always)]
 fn height_of(spans: &[Span], place: u32) -> u32 {
     match spans.get(place as usize) {
@@ -152,7 +156,7 @@ fn height_of(spans: &[Span], place: u32) -> u32 {
     }
 }
 
-/// The end of the span of a place.
+/// Returns the end of the span of a place.
 #[inline(always)]
 fn end_of(spans: &[Span], place: u32) -> u32 {
     match spans.get(place as usize) {

@@ -1,4 +1,4 @@
-//! A circuit of what is free: outputs one after another, then the next states.
+//! Makes a circuit of free moves: the outputs one after another, then the next states.
 
 use crate::codes::Codes;
 use crate::freedom::Freedom;
@@ -7,10 +7,10 @@ use crate::net::{Gate, Net, flip};
 use crate::numbers::{Found, NONE, at, has_bit, item, put, spend};
 use std::alloc::Global;
 
-/// How many gates a function may have.
+/// The most gates that a function may have.
 const MAX_GATES: u32 = 1 << 10;
 
-/// A net with literals: the outputs, and then what the latches take over.
+/// A net with literals: the outputs, and then the next values of the latches.
 #[derive(Drop)]
 pub struct Circuit {
     pub net: Net,
@@ -24,7 +24,7 @@ impl Circuit {
         (self.net.len() as usize).saturating_add(self.literals.len())
     }
 
-    /// Appends the gates to others, where variables from one on are so much greater. Gives the literals there.
+    /// Appends the gates to `gates`, with all variables from `from` on made greater by `by`. Returns the literals there.
     pub fn append(&self, gates: &mut Vec<Gate>, from: u32, by: u32) -> Found<Vec<u32>> {
         let shifted = |literal: u32| {
             let more = if literal / 2 < from { 0 } else { by };
@@ -55,8 +55,8 @@ struct Draft<'a> {
     left: Vec<bool>,
 }
 
-/// The circuit of what is free: output letters, whose bits are made in this order, and then so many bits of next states, under codes of
-/// these. So many words may be looked at.
+/// Returns a circuit of free moves: the bits of the output letter, made in the given order, and then the given number of bits of the next
+/// state's code. Takes the words that are looked at from `looks`. `None` if these run out, or a bit isn't found.
 pub fn circuit_of(
     free: &Freedom,
     codes: &Codes,
@@ -93,7 +93,7 @@ pub fn circuit_of(
     }))
 }
 
-/// The values of signal 0, the inputs and the bits of codes, at all points; the last point stands again until a word is full.
+/// Returns the values of signal 0, the inputs and the bits of codes at all points. The last point is repeated until a word is full.
 fn given_values(alloc: Global, free: &Freedom, codes: &Codes) -> Found<Vec<u64>> {
     let mut given = Vec::new(alloc);
     for signal in 0..free.inputs.saturating_add(codes.bits).saturating_add(1) {
@@ -111,7 +111,7 @@ fn given_values(alloc: Global, free: &Freedom, codes: &Codes) -> Found<Vec<u64>>
     Ok(given)
 }
 
-/// Appends a bit to words, as that of a place.
+/// Appends the bit of a place to words.
 fn push(words: &mut Vec<u64>, place: u32, bit: bool) -> Found<()> {
     if place % 64 == 0 {
         words.push(0)?;
@@ -123,7 +123,7 @@ fn push(words: &mut Vec<u64>, place: u32, bit: bool) -> Found<()> {
 }
 
 impl Draft<'_> {
-    /// A bit of a move: first those of the output letter, then those of the next state's code.
+    /// Returns a bit of a move: first come the bits of the output letter, then those of the next state's code.
     fn bit_of(&self, place: u32, bit: u32) -> bool {
         if bit < self.free.outputs {
             return has_bit(at(&self.free.letters, place), bit);
@@ -132,7 +132,7 @@ impl Draft<'_> {
         has_bit(code, bit.wrapping_sub(self.free.outputs))
     }
 
-    /// Makes a bit, as it is free, and drops the moves in which it is otherwise.
+    /// Makes a bit, with either value where both are free, and drops the moves in which it has the other value.
     fn choose(&mut self, bit: u32) -> Found<Option<u32>> {
         if !spend(&mut self.net.looks, self.left.len() as u64) {
             return Ok(None);

@@ -1,18 +1,18 @@
-//! Codes of states: parts of a machine that go on by themselves have bits of their own.
+//! Codes of states: parts of a machine that go on independently have bits of their own.
 
 use crate::numbers::{Found, NONE, at, count, logarithm, put, spend, width};
 use std::alloc::Global;
 
-/// How many classes a part may have.
+/// The most classes that a part may have.
 const CLASSES: usize = 4;
 
-/// How much a part has to tell for each of its bits, in parts of 256 of a bit.
+/// How much a part must tell at least for each of its bits, in units of 1/256 of a bit.
 const LEAST_GAIN: u32 = 111;
 
-/// How many bits a code may have.
+/// The most bits that a code may have.
 const MAX_BITS: u32 = 24;
 
-/// A code for each state; that of state 0 is 0.
+/// A code for each state; the code of state 0 is 0.
 #[derive(Drop)]
 pub struct Codes {
     pub bits: u32,
@@ -20,8 +20,8 @@ pub struct Codes {
 }
 
 impl Codes {
-    /// Codes that begin with parts of few classes, as long as these tell much; in the rest states are counted that are alike so far.
-    /// None where there is no part though there are edges.
+    /// Returns codes that begin with parts of few classes, as long as these tell much. The remaining bits count the states that are alike
+    /// so far. `None` if there is no part though there are edges, or if the codes have more than `MAX_BITS` bits.
     pub fn new(columns: Columns, looks: &mut u64) -> Found<Option<Codes>> {
         let Columns { alloc, states, .. } = columns;
         let mut codes = Codes {
@@ -60,7 +60,7 @@ impl Codes {
         Ok(Some(codes).filter(|it| has_parts && it.bits <= MAX_BITS))
     }
 
-    /// Codes that tell of a number of each state too.
+    /// Returns the codes with a number of each state added to them.
     fn with(&self, numbers: &[u32]) -> Found<Codes> {
         let mut of = self.of.clone()?;
         let mut most = 0;
@@ -72,7 +72,7 @@ impl Codes {
         Ok(Codes { bits, of })
     }
 
-    /// Gives a state a code; that which has it gets the other.
+    /// Gives a state a code; the state that has it gets the old one.
     pub fn exchange(&mut self, state: u32, code: u32) {
         let old = at(&self.of, state);
         for it in self.of.iter_mut() {
@@ -83,7 +83,7 @@ impl Codes {
         put(&mut self.of, state, code);
     }
 
-    /// The same codes.
+    /// Returns a copy of the codes.
     pub fn copied(&self) -> Found<Codes> {
         Ok(Codes {
             bits: self.bits,
@@ -91,7 +91,7 @@ impl Codes {
         })
     }
 
-    /// The place of each state among those of the same code.
+    /// Returns the place of each state among those of the same code.
     fn places(&self, alloc: Global) -> Found<Vec<u32>> {
         let mut order = Vec::new(alloc);
         for (state, code) in self.of.iter().enumerate() {
@@ -111,7 +111,7 @@ impl Codes {
     }
 }
 
-/// Where edges of so many states lead, or `NONE`: at `letter * states + state`.
+/// Where the edges of `states` states lead, or `NONE`: at `letter * states + state`.
 #[derive(Clone, Copy)]
 pub struct Columns<'a> {
     pub alloc: Global,
@@ -120,7 +120,7 @@ pub struct Columns<'a> {
 }
 
 impl Columns<'_> {
-    /// The class of each state, in a part that tells two apart; none if too many classes are left.
+    /// Returns the class of each state in a part that tells two states apart, or `None` if too many classes are left.
     fn part(self, apart: (u32, u32), looks: &mut u64) -> Found<Option<Vec<u32>>> {
         let mut classes = Vec::new(self.alloc);
         for state in 0..self.states {
@@ -150,7 +150,8 @@ impl Columns<'_> {
         Ok(Some(classes).filter(|_| roots.len() <= CLASSES))
     }
 
-    /// Makes classes one until by each letter a class leads to one class; false if the two of `apart` become one, or that takes too long.
+    /// Merges classes until each class leads to one class by each letter. Returns false if the two states of `apart` come into one class,
+    /// or that takes too long.
     fn close(self, classes: &mut [u32], apart: (u32, u32), looks: &mut u64) -> Found<bool> {
         for _ in 0..classes.len() {
             let mut changes = false;
@@ -181,7 +182,7 @@ impl Columns<'_> {
     }
 }
 
-/// Makes two classes one: that of the lesser number.
+/// Merges two classes into the one with the lesser number.
 fn join(classes: &mut [u32], one: u32, two: u32) {
     for class in classes.iter_mut() {
         if *class == one.max(two) {

@@ -10,7 +10,7 @@ impl Dice {
         Dice(1)
     }
 
-    /// A number below so many; 0 where they are none.
+    /// Returns a number below `many`, or 0 if that is 0.
     pub fn below(&mut self, many: u32) -> u32 {
         self.0 ^= self.0.wrapping_shl(13);
         self.0 ^= self.0.wrapping_shr(7);
@@ -19,7 +19,7 @@ impl Dice {
         wide.wrapping_shr(32) as u32
     }
 
-    /// Exchanges two numbers of a list.
+    /// Exchanges two numbers of a list, at random places.
     pub fn exchange(&mut self, list: &mut [u32]) {
         let many = count(list.len());
         let (one, two) = (self.below(many) as usize, self.below(many) as usize);

@@ -7,8 +7,8 @@ use crate::steps::Steps;
 /// How many orders are tried.
 const ORDERS: u32 = 10;
 
-/// Takes moves away that lead to states which the controller can do without, of those moves that are left: states are left out one after
-/// another, in several orders, and the fewest stay.
+/// Of the moves that are left, takes away those to states that the controller can do without: states are left out one after another, in
+/// several orders, and the fewest stay.
 pub fn keep_few(steps: &Steps, moves: &mut [bool], looks: &mut u64) -> Found<()> {
     let alloc = steps.alloc;
     let mut order = Vec::new(alloc);
@@ -40,12 +40,12 @@ pub fn keep_few(steps: &Steps, moves: &mut [bool], looks: &mut u64) -> Found<()>
     Ok(())
 }
 
-/// How many are marked.
+/// Returns how many places are marked.
 fn number(marks: &[bool]) -> usize {
     marks.iter().filter(|it| **it).count()
 }
 
-/// Lets those states live that can stay among live ones; whether the start can.
+/// Keeps live only the states that can stay among live ones. Returns whether the start can; false also if no looks are left.
 fn does_without(steps: &Steps, moves: &[bool], live: &mut [bool], looks: &mut u64) -> bool {
     let stays = |live: &[bool], point: u32| {
         (0..power(steps.outputs)).any(|output| {

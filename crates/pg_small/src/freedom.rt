@@ -1,4 +1,4 @@
-//! What may be done in place of what a machine does.
+//! The moves that may be made in place of a machine's moves.
 
 use crate::game::Measures;
 use crate::machine::Machine;
@@ -8,7 +8,8 @@ use crate::steps::Steps;
 use pg_search_components::{Edges, Rows};
 use std::ops::Range;
 
-/// At each point moves, by rising output letters. Whatever is chosen, every run is accepted, since the measure of each pair serves.
+/// The moves at each point, in ascending order of output letters. Whichever are chosen, every run is accepted, since the measure of each
+/// pair serves.
 #[derive(Drop)]
 pub struct Freedom {
     pub states: u32,
@@ -16,10 +17,11 @@ pub struct Freedom {
     pub outputs: u32,
     /// Where the moves of each point begin, and where those of the last end.
     firsts: Vec<u32>,
-    /// Of each move the output letter, and the next state.
+    /// The output letter of each move; `nexts` has its next state.
     pub letters: Vec<u32>,
     pub nexts: Vec<u32>,
-    /// Where the automaton's edges lead: at `letter * states + state`, by input letter and then output letter.
+    /// Where the automaton's edges lead, as states of the machine, or `NONE`: at `letter * states + state`, by input letter and then output
+    /// letter.
     pub edges: Vec<u32>,
 }
 
@@ -28,13 +30,13 @@ impl Freedom {
         self.states.wrapping_shl(self.inputs)
     }
 
-    /// The places of the moves of a point.
+    /// Returns the places of the moves of a point.
     pub fn places(&self, point: u32) -> Range<u32> {
         let end = at(&self.firsts, point.saturating_add(1));
         at(&self.firsts, point)..end.min(count(self.nexts.len()))
     }
 
-    /// No freedom: one move at each point, with these output letters and next states.
+    /// Returns a freedom of one move at each point, with these output letters and next states.
     pub fn none(
         (states, inputs, outputs): (u32, u32, u32),
         letters: Vec<u32>,
@@ -56,7 +58,7 @@ impl Freedom {
         })
     }
 
-    /// What may be done in place of what a machine does; none where that is too much to look at.
+    /// Returns the moves that may be made in place of a machine's moves, or `None` if there is too much to look at.
     pub fn of(machine: &Machine, steps: &Steps, looks: &mut u64) -> Found<Option<Freedom>> {
         let Some(mut looking) = Looking::new(machine, steps, looks)? else {
             return Ok(None);
@@ -100,10 +102,10 @@ impl Freedom {
 struct Looking<'a> {
     steps: &'a Steps,
     product: Product,
-    /// The pairs of each of the machine's states, and of the automaton's.
+    /// The pairs of each of the machine's states; `holders` has the pairs of each of the automaton's.
     pairs: Rows,
     holders: Rows,
-    /// Of the pairs.
+    /// The measures of the pairs.
     measures: Measures,
 }
 
@@ -125,7 +127,8 @@ impl<'a> Looking<'a> {
         }))
     }
 
-    /// Of the states that are met beside that to which a letter leads from the first beside a state, the one at a place; or `NONE`.
+    /// Takes the automaton's first state beside a state of the machine, and goes from it by a letter. Returns the machine's state at a
+    /// place among those that are met beside the automaton's state that is reached, or `NONE`.
     fn holder(&self, state: u32, letter: u32, place: u32) -> u32 {
         let pair = item(self.pairs.targets(state), 0, NONE);
         let step = self.steps.step(at(&self.product.besides, pair), letter);
@@ -133,7 +136,7 @@ impl<'a> Looking<'a> {
         at(&self.product.states, pair)
     }
 
-    /// A next state with which a letter serves beside each state of the automaton, or `NONE`.
+    /// Returns a next state with which a letter serves beside each state of the automaton, or `NONE`.
     fn next(&mut self, state: u32, letter: u32, looks: &mut u64) -> Found<u32> {
         for place in 0..u32::MAX {
             let next = self.holder(state, letter, place);

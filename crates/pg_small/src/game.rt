@@ -1,4 +1,4 @@
-//! The game of steps, in which the controller answers input letters, and measures of those who win it.
+//! The game of steps, in which the controller answers input letters, and the measures of the states from which it wins.
 
 use crate::numbers::{Found, NONE, at, count, is_marked, power, put, spend};
 use crate::steps::{Step, Steps};
@@ -16,7 +16,7 @@ pub struct Measures {
 }
 
 impl Measures {
-    /// None if that takes too long.
+    /// Returns the measures of the game of steps, or `None` if that takes too long.
     pub fn of(steps: &Steps, looks: &mut u64) -> Found<Option<Measures>> {
         let graph = graph_of(steps)?;
         let winners = find_winners(steps.alloc, &graph)?;
@@ -34,7 +34,7 @@ impl Measures {
         Ok(Some(measures).filter(|_| is_done))
     }
 
-    /// Finds the rows of vertices that Even wins as it chooses; false if that takes too long.
+    /// Finds the rows of the vertices that Even wins with its choices. Returns false if that takes too long.
     fn lift(
         &mut self,
         graph: &Graph,
@@ -43,7 +43,7 @@ impl Measures {
         looks: &mut u64,
     ) -> Found<bool> {
         let alloc = *won.allocator();
-        // what isn't won never waits anew
+        // a vertex that isn't won never waits again
         let mut waits = vec![in alloc; true; graph.len() as usize]?;
         for v in &won {
             put(&mut self.found, *v, ZEROS);
@@ -77,7 +77,7 @@ impl Measures {
         Ok(true)
     }
 
-    /// The least row that serves a vertex, as its successors stand.
+    /// Returns the least row that serves a vertex, given the rows of its successors.
     fn lifted(&mut self, graph: &Graph, v: u32, choices: &[u32]) -> Found<u32> {
         let mut most = at(&self.found, at(choices, v));
         for w in graph.successors(v) {
@@ -89,7 +89,7 @@ impl Measures {
         self.rows.step(most, graph.priority(v))
     }
 
-    /// Whether a step from a state with a row serves.
+    /// Whether a step from a state serves the state's row.
     pub fn serves(&mut self, state: u32, step: Step) -> Found<bool> {
         let row = at(&self.found, state);
         let there = at(&self.found, step.target);
@@ -98,7 +98,7 @@ impl Measures {
     }
 }
 
-/// Whether the controller wins wherever runs are.
+/// Whether the controller wins from each state.
 pub fn loses_none(steps: &Steps, looks: &mut u64) -> Found<bool> {
     let graph = graph_of(steps)?;
     spend(looks, (graph.edges() as u64).saturating_mul(8));
@@ -107,8 +107,8 @@ pub fn loses_none(steps: &Steps, looks: &mut u64) -> Found<bool> {
     Ok(states.copied().all(|it| it == Player::Even))
 }
 
-/// Takes the steps away that lead to states where the controller loses. For each place whether its step serves the measures: whoever takes
-/// only such steps wins. None where the controller loses the start, or measures take too long.
+/// Takes away the steps to states where the controller loses. Returns for each place whether its step serves the measures: a controller
+/// that takes only such steps wins. `None` if the controller loses the start, or measures take too long.
 pub fn winning_moves(steps: &mut Steps, looks: &mut u64) -> Found<Option<Vec<bool>>> {
     let measures = Measures::of(steps, looks)?;
     let Some(mut measures) = measures.filter(|it| at(&it.found, steps.start) != NONE) else {
@@ -126,8 +126,8 @@ pub fn winning_moves(steps: &mut Steps, looks: &mut u64) -> Found<Option<Vec<boo
     Ok(Some(moves))
 }
 
-/// The graph of the game: states, answers by points, the end of runs that have no edge, and then arrivals by steps. Where there is nothing
-/// to answer, states lead to arrivals.
+/// Returns the graph of the game: states, answers by points, the end of runs that have no edge, and then arrivals by steps. Where there is
+/// nothing to answer, states lead to arrivals.
 fn graph_of(steps: &Steps) -> Found<Graph> {
     let points = steps.point(steps.states, 0);
     let answers = if steps.outputs == 0 { 0 } else { points };
@@ -141,7 +141,7 @@ fn graph_of(steps: &Steps) -> Found<Graph> {
     draft.graph()
 }
 
-/// A graph that is being made: states, then what their owner chooses of them, the end of runs, and then arrivals by steps.
+/// A graph that is being made: states, then the choices of their owner, the end of runs, and then arrivals by steps.
 #[derive(Drop)]
 pub struct Draft {
     alloc: Global,
@@ -155,7 +155,7 @@ pub struct Draft {
 }
 
 impl Draft {
-    /// The states, of this owner, lead to so many vertices of the other player, as many each.
+    /// Begins a graph in which the states belong to `owner` and lead to `choices` vertices of the other player, as many each.
     pub fn new(steps: &Steps, owner: Player, choices: u32) -> Found<Draft> {
         let alloc = steps.alloc;
         let (target, priority) = (steps.states.saturating_add(choices), 1);
@@ -181,7 +181,7 @@ impl Draft {
         })
     }
 
-    /// The next vertex leads to the steps of the row.
+    /// Lets the next vertex lead to the steps of the row, and clears the row.
     pub fn lead(&mut self) -> Found<()> {
         self.offsets.push(count(self.successors.len()))?;
         self.row.sort_unstable();
@@ -199,7 +199,7 @@ impl Draft {
         Ok(())
     }
 
-    /// The graph, once each vertex leads somewhere.
+    /// Returns the graph, once each vertex leads somewhere.
     pub fn graph(self) -> Found<Graph> {
         let Draft {
             alloc,

@@ -1,4 +1,4 @@
-//! Gates made anew, one after another, from what is there.
+//! Remakes gates, one after another, from the signals that are there.
 
 use crate::circuit::Circuit;
 use crate::making::Want;
@@ -6,7 +6,8 @@ use crate::net::{flip, word_of};
 use crate::numbers::{Found, count, item, put};
 
 impl Circuit {
-    /// Makes gates anew wherever that takes fewer, or so many more, until they don't become fewer or so many words were looked at.
+    /// Remakes gates wherever that takes fewer gates, or up to `more` more than that, until they no longer become fewer or `looks` words
+    /// were looked at.
     pub fn improve(&mut self, more: u32, looks: &mut u64) -> Found<()> {
         self.net.looks = *looks;
         for _ in 0..u64::MAX {
@@ -24,7 +25,7 @@ impl Circuit {
         Ok(())
     }
 
-    /// Makes a gate anew, if that serves.
+    /// Remakes a gate, if the net doesn't grow by it.
     fn renew(&mut self, signal: u32, more: u32) -> Found<()> {
         let (want, behind) = self.want_of(signal)?;
         let len = self.net.len();
@@ -54,7 +55,8 @@ impl Circuit {
         Ok(())
     }
 
-    /// What is wanted of a signal: its values wherever a literal would be wrong if it were negated. And which signals are behind it.
+    /// Returns what is wanted of a signal: its values at the points where a literal would be wrong if the signal were negated. Also returns
+    /// which signals depend on it, itself included.
     fn want_of(&mut self, signal: u32) -> Found<(Want, Vec<bool>)> {
         let net = &mut self.net;
         let mut behind = vec![in net.alloc; false; net.len() as usize]?;

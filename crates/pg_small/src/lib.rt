@@ -1,5 +1,5 @@
-//! Small circuits for an automaton whose start the controller wins, also where it moves first. Nothing is promised of what is proposed but that it is found safely
-//! and in the end: who wants to believe a circuit looks at all its runs.
+//! Small circuits for an automaton whose start the controller wins, also where it moves first. Nothing is promised about a proposal except
+//! that the search is safe and ends. To be sure of a circuit, look at all its runs.
 #![tactic(auto)]
 
 mod circuit;

@@ -5,7 +5,7 @@ use crate::steps::{Step, Steps};
 use std::alloc::Global;
 use std::ops::Range;
 
-/// At each point, state by state and input letter by input letter, an output letter and the next state. It begins in state 0.
+/// A machine has an output letter and a next state at each point, state by state and input letter by input letter. It begins in state 0.
 #[derive(Drop)]
 pub struct Machine {
     pub states: u32,
@@ -15,7 +15,8 @@ pub struct Machine {
 }
 
 impl Machine {
-    /// The machine that begins in a state and replies as given to a point and the numbers of the states that were met so far.
+    /// Returns the machine that begins in `start`. At each point it replies as `reply` says, given the point and the numbers of the states
+    /// that were met so far.
     fn met<F: Fn(u32, &[u32]) -> (u32, u32)>(
         alloc: Global,
         inputs: u32,
@@ -54,7 +55,7 @@ impl Machine {
         })
     }
 
-    /// A machine that makes only such moves as are given by their places: where it can, to the state that it met first.
+    /// Returns a machine that makes only the moves that are marked at their places: where it can, to the state that it met first.
     pub fn choose(steps: &Steps, moves: &[bool]) -> Found<Machine> {
         let target = |point: u32, output: u32| steps.at(steps.place(point, output)).target;
         let (states, start) = (steps.states, steps.start);
@@ -67,7 +68,7 @@ impl Machine {
         })
     }
 
-    /// A machine with an output letter for each state, whatever the input letter.
+    /// Returns a machine with an output letter for each state, whatever the input letter.
     pub fn ahead(steps: &Steps, letters: &[u32]) -> Found<Machine> {
         let (states, start) = (steps.states, steps.start);
         Machine::met(steps.alloc, steps.inputs, states, start, |point, _| {
@@ -76,7 +77,7 @@ impl Machine {
         })
     }
 
-    /// The machine of the states that are reached.
+    /// Returns the machine of the states that are reached.
     pub fn reached(&self, alloc: Global) -> Found<Machine> {
         Machine::met(
             alloc,
@@ -87,7 +88,7 @@ impl Machine {
         )
     }
 
-    /// The machine that goes to `to` in place of `from`.
+    /// Returns the machine that goes to `to` in place of `from`.
     pub fn led(&self, alloc: Global, from: u32, to: u32) -> Found<Machine> {
         let mut nexts = Vec::new(alloc);
         for next in &self.nexts {
@@ -101,14 +102,14 @@ impl Machine {
         })
     }
 
-    /// The automaton's step beside the machine's at a point.
+    /// Returns the step that the automaton makes from `beside` while the machine makes its step at a point.
     pub fn step(&self, steps: &Steps, beside: u32, point: u32) -> Step {
         let input = point & power(self.inputs).wrapping_sub(1);
         steps.step(beside, steps.place(input, at(&self.outputs, point)))
     }
 }
 
-/// The points of a state.
+/// Returns the points of a state.
 pub fn points(state: u32, inputs: u32) -> Range<u32> {
     let first = state.wrapping_shl(inputs);
     first..first.saturating_add(power(inputs))

@@ -12,7 +12,7 @@ pub struct Want {
 }
 
 impl Want {
-    /// Nothing yet.
+    /// Returns a `Want` with nothing in it yet.
     pub fn new(alloc: Global) -> Want {
         Want {
             on: Vec::new(alloc),
@@ -21,7 +21,7 @@ impl Want {
     }
 }
 
-/// How many ways are looked at where one gate may do.
+/// The most ways that are looked at where one gate may do.
 const WAYS: usize = 8;
 
 /// How a literal may serve.
@@ -35,7 +35,7 @@ enum Way {
     Choose,
 }
 
-/// A literal that serves in a way, and how much it tells for a gate.
+/// A literal that serves in a way, and how much it tells per gate.
 #[derive(Clone, Copy)]
 struct Candidate {
     literal: u32,
@@ -43,7 +43,7 @@ struct Candidate {
     gain: u32,
 }
 
-/// How many ones two lists share, of which the second is flipped.
+/// Returns how many ones two lists share, if the second one is flipped by `flip`.
 fn shared(words: &[u64], others: &[u64], flip: u64) -> u32 {
     let mut many = 0u32;
     for (word, other) in words.iter().zip(others) {
@@ -53,8 +53,8 @@ fn shared(words: &[u64], others: &[u64], flip: u64) -> u32 {
 }
 
 impl Net {
-    /// A literal as wanted, of at most `most` new gates, if that is found: of one gate by several ways, or by the one that tells most. Gates
-    /// are left where none is found.
+    /// Returns a literal as wanted, of at most `most` new gates, if one is found: of one gate by several ways, or by the way that tells
+    /// most. Gates are left over where none is found.
     #[cycle(making)]
     pub fn make(&mut self, want: &Want, most: u32) -> Found<Option<u32>> {
         let many = (
@@ -81,7 +81,7 @@ impl Net {
         }
     }
 
-    /// The same by a literal.
+    /// Makes a literal as wanted from a candidate, of at most `most` new gates, if one is found.
     #[cycle(making)]
     fn make_by(&mut self, best: Candidate, want: &Want, most: u32) -> Found<Option<u32>> {
         let Candidate { literal, way, .. } = best;
@@ -108,7 +108,7 @@ impl Net {
         Ok(Some(self.and(one ^ 1, two ^ 1)? ^ 1))
     }
 
-    /// A literal that is as wanted.
+    /// Returns a literal that is there and as wanted, if there is one.
     fn there(&mut self, want: &Want) -> Option<u32> {
         self.looks = self.looks.saturating_sub(self.len() as u64 * 2);
         (0..self.len().saturating_mul(2)).find(|literal| {
@@ -123,7 +123,7 @@ impl Net {
         })
     }
 
-    /// The literals that serve, those first that tell most.
+    /// Returns the literals that serve, those that tell most first, and at most `WAYS`.
     fn ways(&mut self, want: &Want, many: (u32, u32)) -> Found<Vec<Candidate>> {
         self.look(self.len().saturating_mul(2));
         let mut ways = Vec::new(self.alloc);
@@ -140,7 +140,7 @@ impl Net {
         Ok(ways)
     }
 
-    /// The values of a literal as what is wanted.
+    /// Returns the values of a literal as what is wanted.
     pub fn want_of(&self, literal: u32) -> Found<Want> {
         let mut want = Want::new(self.alloc);
         for word in self.values(literal / 2) {
@@ -150,7 +150,7 @@ impl Net {
         Ok(want)
     }
 
-    /// What is wanted besides a literal.
+    /// Returns what is wanted besides a literal that serves in a way.
     fn rest(&self, want: &Want, way: Way, literal: u32) -> Found<Want> {
         let mut rest = Want::new(self.alloc);
         let wants = want.on.iter().zip(&want.off);
@@ -164,7 +164,7 @@ impl Net {
         Ok(rest)
     }
 
-    /// Looks at a signal, where something is wanted at so many points.
+    /// Returns a signal as a candidate, where true is wanted at `on` points and false at `off` points.
     fn see(&self, signal: u32, want: &Want, (on, off): (u32, u32)) -> Candidate {
         let values = self.values(signal);
         let (mut on_one, mut on_zero, mut off_one, mut off_zero) = (0u64, 0u64, 0u64, 0u64);
@@ -197,7 +197,7 @@ impl Net {
     }
 }
 
-/// How many pairs of a point of `on` and one of `off` there are, of so many.
+/// Returns how many pairs of a point of `on` and a point of `off` there are, in units of 1/256, given how many points there are.
 fn pairs(on: u32, off: u32) -> u64 {
     (on as u64).saturating_mul(off as u64).saturating_mul(256)
 }

@@ -1,4 +1,4 @@
-//! States of a machine that may answer alike are made one.
+//! Merges states of a machine that may answer alike.
 
 use crate::game::loses_none;
 use crate::machine::Machine;
@@ -7,8 +7,8 @@ use crate::product::{Product, places_of};
 use crate::steps::Steps;
 use pg_search_components::Edges;
 
-/// A machine with fewer states, or the same: states are left out where another one may take their place, since all runs are accepted then
-/// too.
+/// Returns a machine with fewer states, or the same machine. A state is left out where another one may take its place, since all runs are
+/// still accepted then.
 pub fn merged(machine: Machine, steps: &Steps, looks: &mut u64) -> Found<Machine> {
     let mut machine = machine;
     for _ in 0..u32::MAX {
@@ -27,7 +27,7 @@ pub fn merged(machine: Machine, steps: &Steps, looks: &mut u64) -> Found<Machine
     Ok(machine)
 }
 
-/// The machine without a state, if another one may take its place. Only runs through that one are new.
+/// Returns the machine without a state, if another one may take its place. Only runs through that other one are new.
 fn without(
     machine: &Machine,
     state: u32,

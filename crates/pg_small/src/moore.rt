@@ -1,4 +1,4 @@
-//! Circuits whose outputs depend on latches alone, for a controller that chooses its output letter ahead of the input letter.
+//! Circuits whose outputs depend on latches alone, for a controller that chooses its output letter before the input letter.
 
 use crate::circuit::{Circuit, circuit_of};
 use crate::codes::{Codes, Columns};
@@ -15,7 +15,8 @@ use pg_hoa_automaton::Automaton;
 use pg_search_winners::find_winners;
 use std::alloc::{AllocError, Global};
 
-/// As `propose`, but a circuit's outputs don't depend on inputs of the same step.
+/// Proposes small circuits, the smallest first, as `propose` does, but their outputs don't depend on inputs of the same step: at most
+/// three, and none if the controller loses when it chooses first, or the automaton is too large. Fails only if memory runs out.
 pub fn propose_moore(alloc: Global, automaton: &Automaton) -> Result<Vec<Proposal>, AllocError> {
     let mut proposals = Vec::new(alloc);
     let Some(steps) = Steps::of(alloc, automaton)? else {
@@ -39,7 +40,7 @@ pub fn propose_moore(alloc: Global, automaton: &Automaton) -> Result<Vec<Proposa
     Ok(proposals)
 }
 
-/// An output letter for each state, by which the controller wins; none where it loses the start.
+/// Returns an output letter for each state, with which the controller wins, or `None` if it loses the start.
 fn letters_of(steps: &Steps) -> Found<Option<Vec<u32>>> {
     let pairs = steps.states.wrapping_shl(steps.outputs);
     let last = power(steps.outputs).wrapping_sub(1);
@@ -64,7 +65,7 @@ fn letters_of(steps: &Steps) -> Found<Option<Vec<u32>>> {
     Ok(Some(letters))
 }
 
-/// Codes of a machine's states: by parts, or counted.
+/// Returns codes of a machine's states: by parts, or counted.
 fn codes_of(machine: &Machine, is_counted: bool) -> Found<Option<Codes>> {
     let alloc = *machine.nexts.allocator();
     let (inputs, states) = (machine.inputs, machine.states);
@@ -83,7 +84,7 @@ fn codes_of(machine: &Machine, is_counted: bool) -> Found<Option<Codes>> {
     Codes::new(columns, &mut { STEPS })
 }
 
-/// A circuit of the output letters, of latches alone, and behind it one of the next states.
+/// Returns a circuit of the output letters over latches alone, followed by one of the next states.
 fn proposal_of(
     steps: &Steps,
     machine: &Machine,
@@ -124,7 +125,7 @@ fn proposal_of(
     }))
 }
 
-/// A circuit of a part of what machines do, made small.
+/// Returns a circuit of a part of what a machine does, made small.
 fn part(
     free: &Freedom,
     codes: &Codes,

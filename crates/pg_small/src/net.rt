@@ -11,41 +11,41 @@ pub struct Gate {
     pub right: u32,
 }
 
-/// How many places there are for signals: a power of two.
+/// How many places for signals there are: a power of two.
 const PLACES: u32 = 1 << 12;
 
-/// Signal 0 is false; then come those that are given, and then gates.
+/// A net. Signal 0 is false; then come the signals that are given, and then the gates.
 #[derive(Drop)]
 pub struct Net {
     pub alloc: Global,
     /// How many words hold the values of a signal.
     pub words: u32,
-    /// How many signals are no gates.
+    /// How many signals aren't gates.
     pub given: u32,
     gates: Vec<Gate>,
     /// The values of all signals.
     pub values: Vec<u64>,
-    /// Signals at places that their values tell: the last one at each, though it may be gone.
+    /// Signals at places that follow from their values: the last one at each place, though it may be gone.
     places: Vec<u32>,
-    /// Signals that may not be used.
+    /// Whether each signal is barred from use.
     pub barred: Vec<bool>,
     /// How many words may still be looked at.
     pub looks: u64,
 }
 
-/// A word of ones for a literal that is negated, and else of zeros.
+/// Returns a word of ones for a literal that is negated, and a word of zeros for any other.
 pub fn flip(literal: u32) -> u64 {
     0u64.wrapping_sub((literal & 1) as u64)
 }
 
-/// A word of a literal.
+/// Returns a word of a literal's values.
 pub fn word_of(values: &[u64], literal: u32, word: u32, words: u32) -> u64 {
     let place = (literal / 2).saturating_mul(words).saturating_add(word);
     item(values, place, 0) ^ flip(literal)
 }
 
 impl Net {
-    /// The net of signals that are given by their values, signal after signal; those of signal 0 are zeros.
+    /// Returns the net of signals that are given by their values, signal after signal; the values of signal 0 are zeros.
     pub fn new(alloc: Global, words: u32, given: &[u64], looks: u64) -> Found<Net> {
         let mut net = Net {
             alloc,
@@ -73,7 +73,7 @@ impl Net {
         item(&self.gates, signal, Gate { left: 0, right: 0 })
     }
 
-    /// The values of a signal.
+    /// Returns the values of a signal.
     pub fn values(&self, signal: u32) -> &[u64] {
         let words = self.words as usize;
         let from = (signal as usize)
@@ -83,13 +83,13 @@ impl Net {
         &self.values[from..to]
     }
 
-    /// Takes signals that were looked at from those that may be.
+    /// Takes the words of signals that were looked at from those that may be looked at.
     pub fn look(&mut self, signals: u32) {
         let words = (signals as u64).saturating_mul(self.words as u64);
         self.looks = self.looks.saturating_sub(words);
     }
 
-    /// Takes the last signals back, so that so many stay.
+    /// Removes the last signals, so that `len` of them stay.
     pub fn cut(&mut self, len: u32) {
         self.gates.truncate(len as usize);
         self.barred.truncate(len as usize);
@@ -97,7 +97,7 @@ impl Net {
         self.values.truncate(words);
     }
 
-    /// Adds a signal whose values are there.
+    /// Adds a signal whose values are there already.
     fn add(&mut self, gate: Gate) -> Found<()> {
         let signal = self.len();
         let place = self.place(self.values(signal));
@@ -107,7 +107,7 @@ impl Net {
         Ok(())
     }
 
-    /// The place of signals with these values or their negation.
+    /// Returns the place of signals with these values or their negation.
     fn place(&self, values: &[u64]) -> u32 {
         let turn = flip((item(values, 0, 0) & 1) as u32);
         let mut mixed = 0u64;
@@ -118,7 +118,7 @@ impl Net {
         (mixed >> 32) as u32 & (PLACES - 1)
     }
 
-    /// A literal that may be used and has the values that are last, of which no signal is made yet; or `NONE`.
+    /// Returns a literal that may be used and has the last values, of which no signal is made yet; or `NONE`.
     fn find(&self) -> u32 {
         let values = self.values(self.len());
         let signal = at(&self.places, self.place(values));
@@ -133,7 +133,7 @@ impl Net {
         signal.saturating_mul(2) | flips
     }
 
-    /// The conjunction of two literals.
+    /// Returns the conjunction of two literals.
     pub fn and(&mut self, x: u32, y: u32) -> Found<u32> {
         for word in 0..self.words {
             let left = word_of(&self.values, x, word, self.words);
@@ -151,7 +151,7 @@ impl Net {
         Ok(signal.saturating_mul(2))
     }
 
-    /// The gates but one: those that are not behind it, and then those that are.
+    /// Returns the gates except one: first those that don't depend on it, and then those that do.
     fn order(&self, signal: u32, behind: &[bool]) -> Found<Vec<u32>> {
         let mut order = Vec::new(self.alloc);
         for is_behind in [false, true] {
@@ -164,7 +164,7 @@ impl Net {
         Ok(order)
     }
 
-    /// Which signals literals need, and all that are given, where a literal takes the place of a signal.
+    /// Returns which signals literals need when a literal takes the place of a signal; all given signals count as needed.
     pub fn needed(&self, literals: &[u32], swap: (u32, u32), behind: &[bool]) -> Found<Vec<bool>> {
         let mut needed = vec![in self.alloc; true; self.given as usize]?;
         needed.resize(self.gates.len(), false)?;
@@ -181,8 +181,8 @@ impl Net {
         Ok(needed)
     }
 
-    /// What literals need, and nothing else, where a literal takes the place of a signal; they become literals of that net. Signals behind
-    /// the one that is replaced are marked, and the literal is none of these.
+    /// Returns the net of what literals need, and nothing else, when a literal takes the place of a signal; the literals become literals of
+    /// that net. The signals that depend on the replaced one are marked, and the literal that replaces it is none of these.
     pub fn rebuilt(&self, literals: &mut [u32], swap: (u32, u32), behind: &[bool]) -> Found<Net> {
         let needed = self.needed(literals, swap, behind)?;
         let words = (self.given as usize).saturating_mul(self.words as usize);
@@ -207,7 +207,7 @@ impl Net {
     }
 }
 
-/// What stands in place of a literal, where a literal takes the place of a signal.
+/// Returns what takes the place of a literal when a literal takes the place of a signal.
 fn instead(swap: (u32, u32), literal: u32) -> u32 {
     if literal / 2 == swap.0 {
         swap.1 ^ (literal & 1)
@@ -216,7 +216,7 @@ fn instead(swap: (u32, u32), literal: u32) -> u32 {
     }
 }
 
-/// The literal of another net.
+/// Returns the literal of another net, by a map from signals to literals.
 fn image(map: &[u32], literal: u32) -> u32 {
     at(map, literal / 2) ^ (literal & 1)
 }

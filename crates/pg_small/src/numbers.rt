@@ -3,10 +3,10 @@
 pub use pg_search_rows::{NONE, at, count, is_marked, item, put};
 use std::alloc::AllocError;
 
-/// What is found, where memory lasts.
+/// A result, unless memory runs out.
 pub type Found<T> = Result<T, AllocError>;
 
-/// Two to the power of `n`, which is below 32.
+/// Returns two to the power of `n`, which is below 32.
 pub fn power(n: u32) -> u32 {
     1u32.wrapping_shl(n)
 }
@@ -16,19 +16,19 @@ pub fn has_bit(number: u32, n: u32) -> bool {
     number.wrapping_shr(n) & 1 == 1
 }
 
-/// How many bits tell so many numbers apart.
+/// Returns how many bits tell `many` numbers apart.
 pub fn width(many: u32) -> u32 {
     (0..32).find(|n| many <= power(*n)).unwrap_or(32)
 }
 
-/// The logarithm to base 2, in parts of 256, of a number; 0 of 0.
+/// Returns the logarithm of a number to base 2, in units of 1/256; 0 for 0.
 pub fn logarithm(number: u64) -> u32 {
     let zeros = number.leading_zeros().min(63);
     let rest = number.wrapping_shl(zeros).wrapping_shr(55) & 255;
     (63 - zeros) * 256 + rest as u32
 }
 
-/// Takes what is looked at from how much may be; whether something is left.
+/// Takes `many` from the looks that are left. Returns whether any are left.
 pub fn spend(looks: &mut u64, many: u64) -> bool {
     *looks = looks.saturating_sub(many);
     *looks > 0

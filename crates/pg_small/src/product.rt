@@ -6,13 +6,13 @@ use crate::steps::{Step, Steps};
 use pg_search_components::Rows;
 use std::alloc::Global;
 
-/// How many pairs there may be numbers for.
+/// The most pairs that there may be numbers for.
 const MAX_PAIRS: u64 = 1 << 20;
 
-/// Pairs are numbered as they are met.
+/// A product. Pairs are numbered in the order in which they are met.
 #[derive(Drop)]
 pub struct Product {
-    /// Of each pair the machine's state, and the automaton's.
+    /// The machine's state of each pair; `besides` has the automaton's.
     pub states: Vec<u32>,
     pub besides: Vec<u32>,
     /// The number of each pair, or `NONE`.
@@ -21,7 +21,8 @@ pub struct Product {
 }
 
 impl Product {
-    /// The product of a machine; none where the automaton has no edge for a step, or that takes too long, as with too many pairs.
+    /// Returns the product of a machine, from the pairs of `starts` on. `None` if the automaton has no edge for a step, if there are more
+    /// than `most` pairs, or if it takes too long, as with too many pairs to number.
     pub fn of(
         machine: &Machine,
         steps: &Steps,
@@ -66,7 +67,7 @@ impl Product {
         count(self.states.len())
     }
 
-    /// The number of a pair, or `NONE`.
+    /// Returns the number of a pair, or `NONE`.
     pub fn number(&self, state: u32, beside: u32) -> u32 {
         at(
             &self.numbers,
@@ -74,7 +75,7 @@ impl Product {
         )
     }
 
-    /// Meets a pair, which may be known.
+    /// Numbers a pair, unless it is known.
     fn meet(&mut self, state: u32, beside: u32) -> Found<()> {
         if self.number(state, beside) == NONE {
             let place = state.wrapping_mul(self.width).wrapping_add(beside);
@@ -85,7 +86,7 @@ impl Product {
         Ok(())
     }
 
-    /// All runs, as steps from pair to pair with nothing to answer.
+    /// Returns all runs, as steps from pair to pair with no outputs to choose.
     pub fn steps(&self, machine: &Machine, steps: &Steps) -> Found<Steps> {
         let mut table = Vec::new(steps.alloc);
         for (state, beside) in self.states.iter().zip(&self.besides) {
@@ -107,7 +108,7 @@ impl Product {
     }
 }
 
-/// The places of each number below another one in a list.
+/// Returns for each number below `many` its places in a list.
 pub fn places_of(alloc: Global, numbers: &[u32], many: u32) -> Found<Rows> {
     let mut rows = Rows::with_capacity(alloc, 0)?;
     rows.clear(many)?;

@@ -15,38 +15,42 @@ use crate::tree::tree_of;
 use pg_hoa_automaton::Automaton;
 use std::alloc::{AllocError, Global};
 
-/// How much may be looked at: steps where machines are looked for, what these may do instead, and codes; and steps where states are made one.
+/// The most steps that are looked at to find machines, what these may do instead, and codes; `TRIES` is the most steps that are looked at
+/// to merge states.
 pub const STEPS: u64 = 1 << 24;
 
 pub const TRIES: u64 = 1 << 25;
 
-/// How many words of values may be looked at where circuits are made, and each time that they are made anew.
+/// The most words of values that are looked at to make circuits, and each time that their gates are remade.
 pub const WORDS: u64 = 1 << 25;
 
-/// How many other codes and orders of outputs are tried, and how many words may be looked at for each.
+/// How many other codes and orders of outputs are tried; `WORDS_OF_TURN` is the most words that are looked at for each.
 const TURNS: u32 = 60;
 
 const WORDS_OF_TURN: u64 = 1 << 20;
 
-/// A circuit. Its variables from 1 on are the automaton's inputs, in the order of its propositions, then latches, then gates, each of which
-/// is over literals of smaller variables. A literal is twice a variable, plus one where it is negated; 0 is false. All latches begin as 0.
+/// A circuit. Its variables from 1 on are the automaton's inputs, in the order of its propositions, then the latches, and then the gates;
+/// each gate is over literals of smaller variables. A literal is twice a variable, plus one where it is negated; 0 is false. All latches
+/// begin as 0.
 #[derive(Drop)]
 pub struct Proposal {
-    /// What each latch takes over.
+    /// The literal that each latch takes its next value from.
     pub latches: Vec<u32>,
     /// The literal of each of the automaton's outputs, in the order of its propositions.
     pub outputs: Vec<u32>,
+    /// The gates, in the order of their variables.
     pub gates: Vec<Gate>,
 }
 
 impl Proposal {
+    /// How many gates and latches there are.
     pub fn size(&self) -> usize {
         self.gates.len().saturating_add(self.latches.len())
     }
 }
 
-/// Small circuits, the smallest first, that are to be such that the automaton accepts all their runs: at most two, and none where the
-/// controller loses or the automaton is too large. Refuses only where memory runs out.
+/// Proposes small circuits, the smallest first, all of whose runs the automaton is meant to accept: at most two, and none if the controller
+/// loses or the automaton is too large. Fails only if memory runs out.
 pub fn propose(alloc: Global, automaton: &Automaton) -> Result<Vec<Proposal>, AllocError> {
     let mut proposals = Vec::new(alloc);
     let Some(mut steps) = Steps::of(alloc, automaton)? else {
@@ -76,7 +80,7 @@ pub fn propose(alloc: Global, automaton: &Automaton) -> Result<Vec<Proposal>, Al
     Ok(proposals)
 }
 
-/// A machine that makes such moves: of few states from the start, or else of any.
+/// Returns a machine that makes such moves: of few states from the start, or else of any.
 fn small_machine(steps: &Steps, moves: Vec<bool>) -> Found<Machine> {
     let mut moves = moves;
     let any = Machine::choose(steps, &moves)?;
@@ -92,12 +96,12 @@ fn small_machine(steps: &Steps, moves: Vec<bool>) -> Found<Machine> {
 struct Draft {
     free: Freedom,
     codes: Codes,
-    /// Which output is made after which.
+    /// The order in which the outputs are made.
     order: Vec<u32>,
     circuit: Circuit,
 }
 
-/// The smaller one of the circuits with codes by parts and with counted codes.
+/// Returns the smaller one of the circuits with codes by parts and with counted codes, if there is one.
 fn best_draft(steps: &Steps, machine: &Machine) -> Found<Option<Draft>> {
     let mut words = WORDS;
     let mut best: Option<Draft> = None;
@@ -114,7 +118,7 @@ fn best_draft(steps: &Steps, machine: &Machine) -> Found<Option<Draft>> {
     Ok(best)
 }
 
-/// The circuit of what is free beside a machine, with codes for its states.
+/// Returns the circuit of the free moves of a machine, with codes for its states.
 fn draft_of(
     steps: &Steps,
     machine: &Machine,
@@ -150,7 +154,7 @@ fn draft_of(
 }
 
 impl Draft {
-    /// Tries other codes and orders of outputs, as dice tell, as long as that takes little.
+    /// Tries other codes and orders of outputs, as the dice fall, as long as that takes little.
     fn search(&mut self) -> Found<()> {
         let mut dice = Dice::new();
         for _ in 0..TURNS {

@@ -4,10 +4,10 @@ use crate::numbers::{Found, NONE, count, item, power};
 use pg_hoa_automaton::{Automaton, Shape};
 use std::alloc::Global;
 
-/// How many places the table of steps may have.
+/// The most places that the table of steps may have.
 const MAX_PLACES: u64 = 1 << 21;
 
-/// Where a letter leads, and a priority: the controller wins a run if the greatest that recurs is even.
+/// Where a letter leads, and a priority: the controller wins a run if the greatest priority that recurs is even.
 #[derive(Clone, Copy, PartialEq, Eq, PartialOrd, Ord)]
 pub struct Step {
     pub target: u32,
@@ -15,7 +15,7 @@ pub struct Step {
 }
 
 impl Step {
-    /// Where no edge is.
+    /// Stands for no edge.
     pub const NONE: Step = Step {
         target: NONE,
         priority: 0,
@@ -36,7 +36,7 @@ pub struct Steps {
 }
 
 impl Steps {
-    /// The steps of an automaton; none where that has too many.
+    /// Returns the steps of an automaton, or `None` if it has too many.
     pub fn of(alloc: Global, automaton: &Automaton) -> Found<Option<Steps>> {
         let letters = power(automaton.propositions()) as u64;
         if letters.saturating_mul(automaton.states() as u64) > MAX_PLACES {
@@ -74,13 +74,13 @@ impl Steps {
         item(&self.table, place, Step::NONE)
     }
 
-    /// The step from a state by a letter, which is an input letter and then an output letter.
+    /// Returns the step from a state by a letter, which is an input letter and then an output letter.
     pub fn step(&self, state: u32, letter: u32) -> Step {
         self.at(self.place(self.point(state, 0), letter))
     }
 }
 
-/// The letters of the propositions that the controller sets, or of those that it doesn't; the others are false in them.
+/// Returns the letters of the propositions that the controller sets, or of those that it doesn't. All other propositions are false in them.
 fn letters_of(alloc: Global, automaton: &Automaton, sets: bool) -> Found<Vec<u32>> {
     let mut letters = vec![in alloc; 0u32; 1]?;
     for a in 0..automaton.propositions() {
@@ -101,7 +101,7 @@ fn step_of(automaton: &Automaton, state: u32, letter: u32) -> Step {
     Step { target, priority }
 }
 
-/// The priority of a step on which these sets are met, the least first.
+/// Returns the priority of a step on which these sets are met, the least first.
 fn priority_of(shape: Shape, sets: u32, met: &[u32]) -> u32 {
     let high = sets.saturating_mul(2).saturating_add(4);
     match shape {

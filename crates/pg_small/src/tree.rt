@@ -1,5 +1,5 @@
 //! Circuits of large machines: the latches hold the number of the state, and each literal is a tree of choices by the bits of inputs and
-//! latches, of which equal parts stand once.
+//! latches, in which equal parts are shared.
 
 use crate::machine::Machine;
 use crate::net::Gate;
@@ -9,10 +9,10 @@ use crate::steps::Steps;
 use std::alloc::Global;
 use std::collections::BTreeMap;
 
-/// How many rows a machine may have.
+/// The most rows that a machine may have.
 const MOST_ROWS: u32 = 1 << 20;
 
-/// Gates, and which variables they are.
+/// Gates, whose variables come after `variables` others.
 #[derive(Drop)]
 struct Draft {
     alloc: Global,
@@ -22,7 +22,7 @@ struct Draft {
 }
 
 impl Draft {
-    /// The conjunction of two literals.
+    /// Returns the conjunction of two literals.
     fn and(&mut self, x: u32, y: u32) -> Found<u32> {
         let (left, right) = (x.max(y), x.min(y));
         if right == 0 || left == right ^ 1 {
@@ -42,7 +42,7 @@ impl Draft {
         Ok(literal)
     }
 
-    /// One of two literals, or `NONE` where either serves, by the bit of a variable.
+    /// Returns the choice of one of two literals by the bit of a variable. A literal is `NONE` where either value serves.
     fn choice(&mut self, variable: u32, low: u32, high: u32) -> Found<u32> {
         if low == NONE || low == high {
             return Ok(high);
@@ -56,7 +56,7 @@ impl Draft {
         Ok(self.and(one ^ 1, two ^ 1)? ^ 1)
     }
 
-    /// The literals that are bit `n` of these numbers, row after row of the machine.
+    /// Returns the literal that is bit `n` of these numbers, row after row of the machine.
     fn bit(&mut self, numbers: &[u32], n: u32) -> Found<u32> {
         let mut row = Vec::new(self.alloc);
         for number in numbers {
@@ -72,7 +72,7 @@ impl Draft {
         Ok(at(&row, 0))
     }
 
-    /// The literals of the first bits of numbers.
+    /// Returns the literals of the first `many` bits of numbers.
     fn bits(&mut self, numbers: &[u32], many: u32) -> Found<Vec<u32>> {
         let mut literals = Vec::new(self.alloc);
         for n in 0..many {
@@ -82,7 +82,7 @@ impl Draft {
     }
 }
 
-/// The circuit of a machine, whose outputs depend on no input if they don't in the machine; none if that is too large.
+/// Returns the circuit of a machine, or `None` if the machine is too large. Its outputs depend on no input if they don't in the machine.
 pub fn tree_of(machine: &Machine, steps: &Steps) -> Found<Option<Proposal>> {
     if count(machine.nexts.len()) > MOST_ROWS {
         return Ok(None);

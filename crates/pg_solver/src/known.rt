@@ -1,4 +1,4 @@
-//! What the map of one side of a game tells of the other.
+//! What the map of one side of a game says about the other side.
 
 ghost use Rattle.std.specs.Prelude.{IfOk};
 ghost use Rattle.pg_solver.specs.Mirrors.Known.{AreKnownFrom};
@@ -8,7 +8,7 @@ use pg_map::Measures;
 use pg_map_ranks::RankMap;
 use std::alloc::{AllocError, Global};
 
-/// Where the other side is known to have top: where the map has a list.
+/// Returns for each vertex whether the other side is known to have top there, which is so if the map has a list.
 pub(crate) fn known_from(alloc: Global, map: &RankMap) -> Result<Vec<bool>, AllocError>
     ensures { IfOk result (λ known. AreKnownFrom map.now.measures known.items) }
 {

@@ -1,4 +1,4 @@
-//! Lifting to the end, as workers lift: what is left where no proposal is accepted.
+//! Lifting to the end, as workers lift: the way that remains if no proposal is accepted.
 
 ghost use Rattle.std.specs.Prelude.{◌≡◌, ◌<◌, length, IfOk};
 ghost use Rattle.pg_map.specs.Lines.{AreWithin};
@@ -9,8 +9,8 @@ use pg_map::{Lines, MeasureMap};
 use pg_map_lift::Lifter;
 use std::alloc::{AllocError, Global};
 
-/// The least progress measure of some lines, by lifting from zeros. It fails only if memory runs out, also if there are
-/// 2^32 edges or more.
+/// Returns the least progress measure of some lines, by lifting from zeros. It fails only if memory runs out, which also covers 2^32
+/// edges or more.
 pub(crate) fn lifted<G: Lines + Drop>(
     alloc: Global,
     lines: G,
@@ -25,7 +25,7 @@ pub(crate) fn lifted<G: Lines + Drop>(
 {
     let mut lifter = Lifter::new(alloc, lines, zero)?;
     'lifts: while let Some(_vertex) = lifter.lift_next() {}
-    // asked for what its contract says of the map
+    // called for what its contract says of the map
     let _vertices = lifter.len();
     let Lifter { map, .. } = lifter;
     Ok(map)

@@ -17,7 +17,8 @@ use pg_map_ranks::{Ladder, RankMap};
 use pg_measure::Bounds;
 use std::alloc::{AllocError, Global};
 
-/// The map of a proposal, and what claims it; none where its steps are no ladder of the bounds, or a vertex has no rank.
+/// Returns the map of a proposal and its claims; `None` if its steps are no ladder of the bounds, or if it doesn't have a rank for each
+/// vertex.
 fn map_of(
     alloc: Global,
     bounds: &Bounds,
@@ -43,7 +44,7 @@ fn map_of(
     }
 }
 
-/// The map that is proposed of a game, if its claims show that it is the least progress measure.
+/// Returns the map that is proposed for a game, if its claims show that it is the least progress measure.
 pub(crate) fn certified(
     alloc: Global,
     game: &Game,
@@ -66,8 +67,8 @@ pub(crate) fn certified(
     Ok(Some(map))
 }
 
-/// Whether claims show that a closed map is the least progress measure, beside a closed map of the dual lines: where that has a list,
-/// top needs no claim.
+/// Whether the claims show that a closed map is the least progress measure, given a closed map of the dual lines: where that map has a
+/// list, top needs no claim.
 fn is_least_beside<G: Lines, H: Lines>(
     alloc: Global,
     lines: &G,
@@ -83,14 +84,14 @@ fn is_least_beside<G: Lines, H: Lines>(
     ensures { IfOk result (λ is_least. OnTrue is_least (IsLeastProgressMeasure map.now.bounds (length map.now.measures)
         (G.line lines.now) map.now.measures)) }
 {
-    // asked for what its contract says of the map
+    // called for what its contract says of the map
     let _vertices = map.len();
     let known = known_from(alloc, other)?;
     Ok(is_never_above(lines, map, claims, &known))
 }
 
-/// The maps that are proposed of a game and of its dual, if their claims show that they are the least progress measures. Both are closed:
-/// so where one has a list the other's top needs no claim.
+/// Returns the maps that are proposed for a game and for its dual, if their claims show that they are the least progress measures. Both
+/// maps are closed, so where one has a list the other's top needs no claim.
 pub(crate) fn both_certified(
     alloc: Global,
     game: &Game,
@@ -119,7 +120,7 @@ pub(crate) fn both_certified(
     Ok(Some(Maps { of_game, of_dual }))
 }
 
-/// Whether maps of a game and of its dual are closed, and claims show that they are the least progress measures.
+/// Whether the maps of a game and of its dual are closed and the claims show that they are the least progress measures.
 fn are_least(
     alloc: Global,
     game: &Game,
@@ -137,7 +138,7 @@ fn are_least(
 {
     pg_map::laws::game_lines();
     pg_map::laws::game_lines_are_dual();
-    // asked for what its contract says of the game
+    // called for what its contract says of the game
     let _vertices = game.len();
     let dual = Dual::of(game);
     if !of_game.is_closed(game) || !of_dual.is_closed(&dual) {

@@ -17,17 +17,17 @@ use pg_map_lift::Lent;
 use pg_measure::Bounds;
 use std::alloc::{AllocError, Global};
 
-/// A map of a game and one of its dual.
+/// A map of a game and a map of its dual.
 #[derive(Drop)]
 pub struct Maps<M: Drop> {
     pub of_game: M,
     pub of_dual: M,
 }
 
-/// How many numbers a map may have that is lifted to its end: vertices times odd priorities. They take 1 GB.
+/// The most numbers, vertices times odd priorities, in a map that is lifted to its end. They take 1 GB.
 const MOST_NUMBERS: usize = 1 << 28;
 
-/// Fails for a map with more numbers, as if memory ran out.
+/// Fails for a map with more than `MOST_NUMBERS` numbers, as if memory ran out.
 fn see_if_it_fits(vertices: usize, bounds: &Bounds) -> Result<(), AllocError> {
     if vertices.saturating_mul(bounds.pairs().len()) > MOST_NUMBERS {
         return Err(AllocError);
@@ -35,7 +35,7 @@ fn see_if_it_fits(vertices: usize, bounds: &Bounds) -> Result<(), AllocError> {
     Ok(())
 }
 
-/// The least progress measure of a game, by lifting.
+/// Returns the least progress measure of a game, by lifting.
 fn lift_game(alloc: Global, game: &Game) -> Result<MeasureMap, AllocError>
     ensures bounds { IfOk result (λ m. IsBoundsOf game.now m.bounds) }
     ensures least { IfOk result (λ m. IsLeastProgressMeasure m.bounds (length game.now) (game_line game.now) m.measures) }
@@ -47,7 +47,7 @@ fn lift_game(alloc: Global, game: &Game) -> Result<MeasureMap, AllocError>
     lifted(alloc, Lent { lines: game }, zero)
 }
 
-/// That of its dual.
+/// Returns the least progress measure of the dual of a game, by lifting.
 fn lift_dual(alloc: Global, game: &Game) -> Result<MeasureMap, AllocError>
     ensures bounds { IfOk result (λ m. IsBoundsOf (dual game.now) m.bounds) }
     ensures least { IfOk result (λ m. IsLeastProgressMeasure m.bounds (length (dual game.now))
@@ -61,9 +61,9 @@ fn lift_dual(alloc: Global, game: &Game) -> Result<MeasureMap, AllocError>
     lifted(alloc, Dual::of(game), zero)
 }
 
-/// Returns the least progress measure of a game: the proposed map if its claims hold, and otherwise the map that
-/// lifting finds. The answer is the same map either way. It fails only if memory runs out; lifting also counts as
-/// running out of memory if the map has more than 2^28 numbers, vertices times odd priorities.
+/// Returns the least progress measure of a game: the proposed map if its claims hold, and otherwise the map that lifting finds. The map
+/// has the same measures either way. It fails only if memory runs out; lifting also counts as running out of memory if the map has more
+/// than 2^28 numbers, vertices times odd priorities.
 pub fn measure(alloc: Global, game: &Game, proposal: Option<Proposal>) -> Result<Found, AllocError>
     ensures bounds { IfOk result (λ m. IsBoundsOf game.now (found_map m).bounds) }
     ensures least { IfOk result (λ m. IsLeastProgressMeasure (found_map m).bounds (length game.now)
@@ -77,7 +77,9 @@ pub fn measure(alloc: Global, game: &Game, proposal: Option<Proposal>) -> Result
     Ok(Found::Rows(lift_game(alloc, game)?))
 }
 
-/// The same for a game and its dual.
+/// Returns the least progress measures of a game and of its dual: the proposed maps if the claims of both hold, and otherwise the maps
+/// that lifting finds. The maps have the same measures either way. It fails only if memory runs out; lifting also counts as running out
+/// of memory if a map has more than 2^28 numbers, vertices times odd priorities.
 pub fn solve(
     alloc: Global,
     game: &Game,

@@ -43,7 +43,7 @@ fn climbs(map: &mut MeasureMap, game: &Game) -> bool {
         && are(map, View::List(&[1, 0]), View::List(&[1, 0]))
 }
 
-/// Whether lifting ends with top at both vertices, where vertex 0 serves vertex 1.
+/// Whether lifting ends with top at both vertices, and vertex 0 then serves vertex 1.
 fn ends_at_top(map: &mut MeasureMap, game: &Game) -> bool {
     if !is_of(map, game) {
         return false;
@@ -65,7 +65,7 @@ fn lifts_end_at_top(rt: HostRuntime) -> Result<(), Fail> {
     Ok(())
 }
 
-/// The map of zeros in which one of the two vertices is raised to this measure.
+/// Returns the map of zeros with one of the two vertices raised to this measure.
 fn raised(alloc: Global, bounds: &Bounds, v: u32, to: &Measure) -> Result<MeasureMap, AllocError>
     ensures bounds { IfOk result (λ m. m.bounds ≡ bounds.now) }
     ensures size { IfOk result (λ m. length m.measures ≡ 2) }
@@ -77,7 +77,7 @@ fn raised(alloc: Global, bounds: &Bounds, v: u32, to: &Measure) -> Result<Measur
     Ok(map)
 }
 
-/// Whether the first map isn't at most the second, and has 0,1 and top once that is joined to it.
+/// Whether the first map isn't at most the second, and has 0,1 and top once the second is joined with it.
 fn joins(first: &mut MeasureMap, second: &MeasureMap) -> bool
     requires { AreAlike first.old second.now }
 {

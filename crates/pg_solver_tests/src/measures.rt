@@ -46,7 +46,7 @@ fn steps_carry(rt: HostRuntime) -> Result<(), Fail> {
     Ok(())
 }
 
-/// Whether the measure is below top, is top once that is joined to it, and is set to it again.
+/// Whether the measure is below top, is top once top is joined with it, and is set to it again.
 fn comes_to(measure: &mut Measure, top: &Measure, bounds: &Bounds) -> bool
     requires { measure.old.width ≡ top.now.width }
 {

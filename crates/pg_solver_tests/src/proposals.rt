@@ -1,4 +1,4 @@
-//! Proposals that are certified, and others, which are refused, so that the game is lifted.
+//! Proposals that are certified, and others that are refused, so that the game is lifted.
 
 use pg_arena::Player::{Even, Odd};
 use pg_arena::{Game, GameBuilder, Player, Vertex};
@@ -8,7 +8,7 @@ use pg_solver::{Found, Proposals, measure, solve};
 use std::alloc::{AllocError, Global};
 use std::test::Fail;
 
-/// The game of these vertices: the priority of each, its owner and its successors.
+/// Makes the game of these vertices: the priority of each, its owner and its successors.
 fn game(alloc: Global, vertices: &[(u32, Player, &[u32])]) -> Result<Game, Fail> {
     let mut builder = GameBuilder::new(alloc);
     let mut number = 0;
@@ -19,8 +19,8 @@ fn game(alloc: Global, vertices: &[(u32, Player, &[u32])]) -> Result<Game, Fail>
     Ok(builder.finish()?)
 }
 
-/// Odd's vertex 0 goes to 1 first and comes back over 2, and then goes to 3. So the vertex 0 has a claim of each of two rows: one at 3, and one
-/// at both 3 and 1.
+/// Odd's vertex 0 goes to 1 first and comes back over 2, and then goes to 3. So vertex 0 has a claim in each of two rows:
+/// one at 3, and one at both 3 and 1.
 static TWICE: [(u32, Player, &[u32]); 6] = [
     (0, Odd, &[1, 3]),
     (1, Even, &[2]),
@@ -30,7 +30,7 @@ static TWICE: [(u32, Player, &[u32]); 6] = [
     (0, Even, &[0]),
 ];
 
-/// Claims by vertices, ranks and places, the first place of each vertex, and the priorities and ends of an order.
+/// Makes claims from vertices, ranks and places, the first place of each vertex, and the priorities and ends of an order.
 fn claims(
     alloc: Global,
     claims: &[(u32, u32, u32)],
@@ -58,7 +58,7 @@ fn claims(
     Ok(made)
 }
 
-/// The proposal of these ranks over these steps.
+/// Makes the proposal of these ranks over these steps.
 fn proposal(
     alloc: Global,
     steps: &[u32],
@@ -73,7 +73,7 @@ fn proposal(
     })
 }
 
-/// Whether the proposal is certified; else the game is lifted.
+/// Whether the proposal is certified; otherwise the game is lifted.
 fn is_certified(
     alloc: Global,
     game: &Game,
@@ -83,7 +83,7 @@ fn is_certified(
     Ok(matches!(&found, Found::Ranks(_)))
 }
 
-/// Whether the proposals for the game and its dual are certified; else both are lifted.
+/// Whether the proposals for the game and its dual are certified; otherwise both are lifted.
 fn are_certified(
     alloc: Global,
     game: &Game,
@@ -96,7 +96,7 @@ fn are_certified(
     ))
 }
 
-/// What is proposed of a game and its dual, but for the claims of the game.
+/// Returns the proposals for a game and its dual, without the claims of the game.
 fn without_claims(alloc: Global, game: &Game) -> Result<Option<Proposals>, Fail> {
     let mut proposals = propose(alloc, game)?;
     if let Some(proposals) = &mut proposals {

@@ -1,4 +1,4 @@
--- What is answered for an automaton: its game and where that begins, and a machine; or why there is none.
+-- The results for an automaton: its game and the vertex where it begins, and a machine; or why there is none.
 use Rattle.std.specs.Prelude.{◌≡◌, ℕ, List, Option, Some, None}
 use Rattle.pg_arena.specs.declared.player.Player.TheVariants.{Even, Odd}
 use Rattle.pg_arena.specs.Games.{GameVertex, IsWithinLimits}
@@ -17,12 +17,12 @@ pub record IsSynthGame (a : Automaton) (game : List GameVertex) (initial : ℕ) 
   pub limits : IsWithinLimits game
   pub begins : StandsFor a game initial (Arrival a.start None)
 
--- why there is no game; memory may run out
+-- why there is no game; memory may run out at any time
 abbrev pub Refuses : Automaton → SynthFault → Type 0
 Refuses a OutOfMemory = Unit {0}
 Refuses a TooLarge = (game : List GameVertex) × IsGameOfAutomaton a game × ¬ IsWithinLimits game
 
--- none exactly if Odd wins where the game begins, and else a machine that follows the solution
+-- none if and only if Odd wins where the game begins, and otherwise a machine that follows the solution
 abbrev pub IsMealyOf : Automaton → List GameVertex → ℕ → List Answer → Option Machine → Type 0
 IsMealyOf a game initial solution None = winner solution initial ≡ Odd
 IsMealyOf a game initial solution (Some machine) = (winner solution initial ≡ Even) × Follows a game solution machine

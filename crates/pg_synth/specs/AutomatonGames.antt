@@ -18,7 +18,8 @@ input_letters a = 2 ^ inputs a.controllable
 abbrev pub output_letters : Automaton → ℕ
 output_letters a = 2 ^ outputs a.controllable
 
--- how many identifiers each state has: the arrival without a set, one with each set, the answer to each input letter
+-- how many identifiers each state has: one for the arrival without a set, one for the arrival with each set, and one for the answer to
+-- each input letter
 abbrev pub width : Automaton → ℕ
 width a = a.sets + 1 + input_letters a
 
@@ -33,7 +34,7 @@ place_owner Dead = Odd
 place_owner (Arrival q set) = Odd
 place_owner (Answer q i) = Even
 
--- the priority of an arrival with the set s, of n; the last two shapes have no sets
+-- the priority of an arrival with the set s, of n sets; with the last two shapes there are no sets
 abbrev pub set_priority : Shape → ℕ → ℕ → ℕ
 set_priority MaxEven n s = s + 2
 set_priority MaxOdd n s = s + 3
@@ -42,7 +43,7 @@ set_priority MinOdd n s = 2 * n + 3 - s
 set_priority Always n s = s + 3
 set_priority Never n s = s + 3
 
--- the priority of one with no set: even exactly if the shape accepts that no set recurs, and below those with a set
+-- the priority of an arrival without a set: even exactly if the shape accepts when no set recurs, and below those of arrivals with a set
 abbrev pub none_priority : Shape → ℕ → ℕ
 none_priority MaxEven n = 1
 none_priority MaxOdd n = 0
@@ -81,7 +82,7 @@ IsPlaceOf a Dead = Unit {0}
 IsPlaceOf a (Arrival q set) = IsArrival a (Arrival q set)
 IsPlaceOf a (Answer q i) = (q < a.states) × (i < input_letters a)
 
--- from an arrival any input letter may come, and to that any output letter
+-- from an arrival there is a move for any input letter, and from the answer to it for any output letter
 abbrev pub Moves : Automaton → Place → Place → Type 0
 Moves a Dead y = y ≡ Dead
 Moves a (Arrival q set) y = (i : ℕ) × (i < input_letters a) × (y ≡ Answer q i)
@@ -99,7 +100,7 @@ pub record StandsFor (a : Automaton) (game : List GameVertex) (v : ℕ) (x : Pla
   pub owned : (vertex_at game v).owner ≡ place_owner x
   pub named : (vertex_at game v).name ≡ Some (place_name x)
 
--- each place has a vertex, each vertex stands for a place, and edges lead just where moves do
+-- each place has a vertex, each vertex stands for a place, and the edges are exactly the moves
 pub record IsGameOfAutomaton (a : Automaton) (game : List GameVertex) : Type 0 where
   pub is_game : IsGame game
   pub each_place : (x : Place) → IsPlaceOf a x → (v : ℕ) × StandsFor a game v x

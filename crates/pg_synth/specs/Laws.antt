@@ -36,7 +36,7 @@ WordAndPlay =
     (a : Automaton) (game : List GameVertex) (word : ℕ → ℕ) → IsAutomaton a → IsGameOfAutomaton a game
     → IsWord a word → TracesOnePlay a game word
 
--- an automaton has a game, and every other is the same
+-- an automaton has a game, and every game of it is the same
 abbrev pub OneGame : Type 0
 OneGame =
     (a : Automaton) → IsAutomaton a
@@ -50,7 +50,7 @@ pub record IsWonBy (a : Automaton) (game : List GameVertex) (initial : ℕ) (sol
   pub sound : IsSound game solution
   pub wins : winner solution initial ≡ player
 
--- where Even wins, every word of the machine is accepted
+-- if Even wins, every word of the machine is accepted
 abbrev pub MachineAccepted : Type 0
 MachineAccepted =
     (a : Automaton) (game : List GameVertex) (initial : ℕ) (solution : List Answer) (numbering : ℕ → ℕ) (machine : Machine)
@@ -58,7 +58,7 @@ MachineAccepted =
     → IsMachineOf a game solution numbering machine → IsInputWord a input
     → IsAccepted a condition (machine_word a.controllable machine input)
 
--- where Odd wins, no word with Odd's input letters is accepted
+-- if Odd wins, no word with Odd's input letters is accepted
 abbrev pub Unrealizable : Type 0
 Unrealizable =
     (a : Automaton) (game : List GameVertex) (initial : ℕ) (solution : List Answer) (condition : Formula) (word play : ℕ → ℕ)
@@ -72,8 +72,8 @@ OneMachine =
     → IsAutomaton a → IsWonBy a game initial solution Even
     → Follows a game solution machine → Follows a game solution other → other ≡ machine
 
--- What an answer says of endless words: every word of the machine is accepted; where there is none, no word with Odd's input
--- letters is.
+-- What a result says of endless words: every word of the machine is accepted; if there is no machine, no word with Odd's input letters is
+-- accepted.
 abbrev pub Says : Automaton → List GameVertex → List Answer → Formula → Option Machine → Type 0
 Says a game solution condition (Some machine) =
     (input : ℕ → ℕ) → IsInputWord a input → IsAccepted a condition (machine_word a.controllable machine input)

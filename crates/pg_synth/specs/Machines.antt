@@ -1,4 +1,4 @@
--- Mealy machines, those that follow a solution of the game of an automaton, and the words that they make.
+-- Mealy machines, which of them follow a solution of the game of an automaton, and the words that they make.
 use Rattle.std.specs.Prelude.{◌≡◌, ℕ, zero, suc, ◌+◌, ◌*◌, ◌^◌, ◌<◌, ◌≤◌, Bool, List, length, slice_index_or, Some, IsSome}
 use Rattle.pg_arena.specs.Games.{GameVertex}
 use Rattle.pg_text.specs.declared.answer.Answer as solutions
@@ -10,27 +10,27 @@ use Rattle.pg_synth.specs.AutomatonGames.{StandsFor, arrival_of, input_letters, 
 use Rattle.pg_synth.specs.declared.place.Place.TheVariants.{Answer}
 use Rattle.pg_synth.specs.declared.mealy.Reply.{Reply}
 
--- A machine begins in its state 0. A reply to an input letter is an output letter and the state that is next.
+-- A machine begins in its state 0. A reply to an input letter is an output letter and the next state.
 pub record Machine : Type 0 where
   pub states : ℕ
-  -- how many propositions its input letters have, and its output letters
+  -- the number of propositions in an input letter, and in an output letter
   pub inputs : ℕ
   pub outputs : ℕ
   -- the replies of state 0 to the input letters 0, 1, .., then those of state 1, and so on
   pub replies : List Reply
 
--- what stands past the last reply
+-- the value past the last reply
 abbrev pub no_reply : Reply
 no_reply = record { output = 0; next = 0 }
 
 abbrev pub reply_at : Machine → ℕ → Reply
 reply_at machine place = slice_index_or machine.replies place no_reply
 
--- what the state k replies to the input letter i
+-- the reply of the state k to the input letter i
 abbrev pub reply : Machine → ℕ → ℕ → Reply
 reply machine k i = reply_at machine (k * 2 ^ machine.inputs + i)
 
--- a reply for each state and input letter, whose numbers are in range, and all is within the limits of an automaton
+-- there is a reply for each state and input letter, its numbers are in range, and all is within the limits of an automaton
 pub record IsMachine (machine : Machine) : Type 0 where
   pub has_start : 0 < machine.states
   pub whole : length machine.replies ≡ machine.states * 2 ^ machine.inputs
@@ -41,7 +41,7 @@ pub record IsMachine (machine : Machine) : Type 0 where
   pub few_propositions : machine.inputs + machine.outputs ≤ 16
   pub few_steps : machine.states * 2 ^ (machine.inputs + machine.outputs) ≤ 16777216
 
--- the state after the first t input letters, and the output letter that comes with the next
+-- the state after the first t input letters, and the output letter for the next one
 abbrev pub machine_state : Machine → (ℕ → ℕ) → ℕ → ℕ
 machine_state machine input zero = 0
 machine_state machine input (suc t) = (reply machine (machine_state machine input t) (input t)).next
@@ -53,8 +53,8 @@ machine_output machine input t = (reply machine (machine_state machine input t) 
 abbrev pub machine_word : List Bool → Machine → (ℕ → ℕ) → ℕ → ℕ
 machine_word controllable machine input t = joined controllable (input t) (machine_output machine input t)
 
--- At the automaton's state q and the input letter i the output letter leads to the chosen successor of the answer, an arrival
--- at the state `target`, and no lesser output letter does.
+-- At the automaton's state q and the input letter i, the output letter leads to the chosen successor of the answer, which is an arrival
+-- at the state `target`, and no smaller output letter does.
 pub record FollowsAt (a : Automaton) (game : List GameVertex) (solution : List solutions.Answer)
     (q i output target : ℕ) : Type 0 where
   pub output_in : output < output_letters a
@@ -66,7 +66,7 @@ pub record FollowsAt (a : Automaton) (game : List GameVertex) (solution : List s
   pub least : (v w o : ℕ) → StandsFor a game v (Answer q i) → choice solution v ≡ Some w
       → StandsFor a game w (arrival_of a.shape (next a q (joined a.controllable i o))) → output ≤ o
 
--- `numbering` names the automaton's state of each state of the machine
+-- `numbering` gives for each state of the machine the automaton's state
 pub record IsMachineOf (a : Automaton) (game : List GameVertex) (solution : List solutions.Answer) (numbering : ℕ → ℕ)
     (machine : Machine) : Type 0 where
   pub is_machine : IsMachine machine
@@ -76,8 +76,8 @@ pub record IsMachineOf (a : Automaton) (game : List GameVertex) (solution : List
   pub follows : (k i : ℕ) → k < machine.states → i < input_letters a
       → FollowsAt a game solution (numbering k) i (reply machine k i).output (numbering (reply machine k i).next)
 
--- No state of the automaton has two numbers. Each but the first is next in a reply of a lesser one, and the first such reply
--- comes behind none that leads to a greater one: states are numbered as they are met, state by state and letter by letter.
+-- No state of the automaton has two numbers. Each state but the first is next in a reply of a state with a smaller number, and before the
+-- first such reply none leads to a state with a greater number: states are numbered as they are met, state by state and letter by letter.
 pub record IsInOrder (numbering : ℕ → ℕ) (machine : Machine) : Type 0 where
   pub distinct : (j k : ℕ) → j < machine.states → k < machine.states → numbering j ≡ numbering k → j ≡ k
   pub discovered : (n : ℕ) → 0 < n → n < machine.states

@@ -18,11 +18,11 @@ abbrev pub answer_at : Option ℕ → ℕ → Place
 answer_at None i = Dead
 answer_at (Some q) i = Answer q i
 
--- the answer to the input letter that comes after the first t letters
+-- the answer to the input letter after the first t letters
 abbrev pub answer_after : Automaton → (ℕ → ℕ) → ℕ → Place
 answer_after a word t = answer_at (state_after a word t) (input_of a.controllable (word t))
 
--- the play goes from arrival to answer to arrival as the word leads
+-- the play goes from arrival to answer to arrival, as the word leads it
 pub record Traces (a : Automaton) (game : List GameVertex) (word play : ℕ → ℕ) : Type 0 where
   pub goes_on : IsPlay (IsEdge game) play
   pub arrivals : (t : ℕ) → StandsFor a game (play (2 * t)) (arrival_after a word t)

@@ -26,14 +26,13 @@ use pg_hoa_automaton::Automaton;
 use pg_text::Solution;
 use std::alloc::{AllocError, Global};
 
-/// Returns the machine by which the controller follows a sound solution of the automaton's game, or None if and only if
-/// Odd wins the vertex where the game begins. Its output letter is the least one that leads to the chosen successor.
-/// Its states are the automaton's states that it can reach, numbered in the order in which a breadth-first search meets
-/// them: the initial state first, and for each state its input letters in rising order. The time is linear in these
-/// states times the letters.
+/// Returns the machine by which the controller follows a sound solution of the automaton's game, or `None` if and only if Odd wins the
+/// vertex where the game begins. Its output letter is always the least one that leads to the chosen successor. Its states are the
+/// automaton's states that it can reach, numbered in the order in which a breadth-first search meets them: the initial state first, and
+/// for each state its input letters in rising order. The time is linear in the number of these states times letters.
 ///
-/// The game must be the automaton's, and the solution must have a choice wherever the winner owns the vertex. It fails
-/// only with `OutOfMemory`.
+/// `synth` must be the automaton's game, and the solution must have a choice wherever the winner owns the vertex. It fails only with
+/// `OutOfMemory`.
 pub fn mealy_of(
     alloc: Global,
     automaton: &Automaton,
@@ -46,7 +45,7 @@ pub fn mealy_of(
     ensures machine { IfOk result (IsMealyOf automaton.now synth.now.game synth.now.initial solution.now) }
     ensures memory { IfErr result (λ fault. fault ≡ OutOfMemory) }
 {
-    // asked for what its contract says of the automaton
+    // called for what its contract says of the automaton
     let _states = automaton.states();
     match solution.winner(synth.initial) {
         Player::Odd => Ok(None),
@@ -54,7 +53,7 @@ pub fn mealy_of(
     }
 }
 
-/// The machine, where Even wins.
+/// Returns the machine, if Even wins.
 fn controller(
     alloc: Global,
     automaton: &Automaton,
@@ -79,17 +78,17 @@ fn controller(
     Ok(Mealy::from_parts(states, inputs, outputs, draft.replies))
 }
 
-/// A machine that is being made.
+/// A machine that is being built.
 #[derive(Drop)]
 struct Draft {
-    /// The automaton's states, by their numbers.
+    /// The automaton's states, by their numbers in the machine.
     states: IndexSet<u32>,
     /// The replies so far, state by state and input letter by input letter.
     replies: Vec<Reply>,
 }
 
 impl Draft {
-    /// No reply, and only the initial state has a number.
+    /// Returns a draft without replies, in which only the initial state has a number.
     fn new(alloc: Global, start: u32) -> Result<Draft, AllocError>
         ensures states { IfOk result (λ draft. draft.states.keys ≡ start ∷ []) }
         ensures replies { IfOk result (λ draft. draft.replies.items ≡ []) }
@@ -100,7 +99,7 @@ impl Draft {
         Ok(Draft { states, replies })
     }
 
-    /// Appends the replies of the state with a number.
+    /// Appends the replies of the state with this number.
     fn push_row(
         &mut self,
         automaton: &Automaton,
@@ -135,7 +134,7 @@ impl Draft {
         Ok(())
     }
 
-    /// Appends a reply, and numbers the state that it leads to if that has no number.
+    /// Appends a reply, and gives the state to which it leads a number if it has none.
     fn push(&mut self, output: u32, target: u32) -> Result<(), AllocError>
         requires states { (k : ℕ) → k < length self.old.states.keys → state_of self.old.states.keys k < 65535 }
         requires target { target < 65535 }
@@ -152,8 +151,7 @@ impl Draft {
     }
 }
 
-/// The least output letter that leads to the chosen successor of an answer which Even wins, and the automaton's state
-/// there.
+/// Returns the least output letter that leads to the chosen successor of an answer that Even wins, and the automaton's state there.
 fn chosen_step(
     automaton: &Automaton,
     layout: &Layout,
@@ -179,7 +177,7 @@ fn chosen_step(
     (output, target)
 }
 
-/// The least output letter by which a state and an input letter lead to the place with an identifier, if one does.
+/// Returns the least output letter that leads from a state and an input letter to the place with this identifier, if there is one.
 fn least_output(
     automaton: &Automaton,
     layout: &Layout,

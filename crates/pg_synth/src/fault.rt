@@ -7,7 +7,7 @@ use std::alloc::{AllocError, AllocFailed};
 use std::error::Error;
 use std::fmt;
 
-/// Why a call has no answer.
+/// Why there is no game or no machine.
 #[derive(Clone, Copy, Debug, PartialEq, Eq)]
 pub enum SynthFault {
     /// Memory ran out.

@@ -32,7 +32,7 @@ pub fn game_of(alloc: Global, automaton: &Automaton) -> Result<SynthGame, SynthF
     ensures priorities { IfOk result (λ made. HasPrioritiesUpTo 65535 made.game) }
     ensures fault { IfErr result (Refuses automaton.now) }
 {
-    // asked for what its contract says of the automaton
+    // called for what its contract says of the automaton
     let _states = automaton.states();
     let layout = layout_of(alloc, automaton)?;
     let identifiers = identifiers_of(alloc, automaton, &layout)?;
@@ -42,7 +42,7 @@ pub fn game_of(alloc: Global, automaton: &Automaton) -> Result<SynthGame, SynthF
     if !has_few_edges(alloc, automaton, &layout, &identifiers)? {
         return Err(SynthFault::TooLarge);
     }
-    // the limits are kept, so only memory can be refused
+    // the limits are kept, so `built` can fail only by running out of memory
     let Ok(game) = built(alloc, automaton, &layout, &identifiers) else {
         return Err(SynthFault::OutOfMemory);
     };

@@ -1,4 +1,4 @@
-//! Laws that follow from the definitions. Each function states one in its contract, and does nothing.
+//! Laws that follow from the definitions. Each function's contract states a law, and its body does nothing.
 
 ghost use Rattle.pg_synth.specs.Laws.{AnswerHolds, JoinedLetters, MachineAccepted, OneGame, OneMachine, Unrealizable, WordAndPlay};
 
@@ -24,18 +24,18 @@ pub fn machine_accepted()
     ensures { MachineAccepted }
 {}
 
-/// If Odd wins by a sound solution, the automaton accepts no word whose input letters are those that Odd chooses at the
-/// arrivals which the word traces.
+/// If Odd wins by a sound solution, the automaton accepts no word whose input letters are those that Odd chooses at the arrivals that the
+/// word traces.
 pub fn unrealizable()
     ensures { Unrealizable }
 {}
 
-/// Exactly one machine follows a given sound solution by which Even wins, so `mealy_of` has one answer.
+/// Only one machine follows a given sound solution by which Even wins, so the result of `mealy_of` is unique.
 pub fn one_machine()
     ensures { OneMachine }
 {}
 
-/// The answer of `mealy_of` for a sound solution, stated for endless words.
+/// What the result of `mealy_of` for a sound solution means for endless words.
 pub fn answer_holds()
     ensures { AnswerHolds }
 {}

@@ -1,5 +1,5 @@
-//! How the vertices of the game of an automaton are numbered: each state has a number for its arrival without a set, one for
-//! that with each set, and one for its answer to each input letter.
+//! How the vertices of the game of an automaton are numbered. Each state has a number for its arrival without a set, one for its arrival
+//! with each set, and one for its answer to each input letter.
 
 ghost use Rattle.std.specs.Prelude.{◌≡◌, ◌^◌, ◌≤◌, length, map, IfOk};
 ghost use Rattle.std.specs.List.{range_with_len};
@@ -10,7 +10,7 @@ ghost use Rattle.pg_synth.specs.Mirrors.Layouts.{IsLayoutOf};
 use pg_hoa_automaton::Automaton;
 use std::alloc::{AllocError, Global};
 
-/// Each input letter and each output letter as a letter whose other part is zero, and how many numbers a state has.
+/// Each input letter and each output letter, as a letter whose other part is zero, and the number of identifiers per state.
 #[derive(Drop)]
 pub(crate) struct Layout {
     pub inputs: Vec<u32>,
@@ -18,7 +18,7 @@ pub(crate) struct Layout {
     pub width: u32,
 }
 
-/// The layout of the game of an automaton.
+/// Returns the layout of the game of an automaton.
 pub(crate) fn layout_of(alloc: Global, automaton: &Automaton) -> Result<Layout, AllocError>
     requires { IsAutomaton automaton.now }
     ensures { IfOk result (IsLayoutOf automaton.now) }
@@ -34,7 +34,7 @@ pub(crate) fn layout_of(alloc: Global, automaton: &Automaton) -> Result<Layout, 
     })
 }
 
-/// How many propositions the controller sets.
+/// Returns the number of propositions that the controller sets.
 pub fn count_controlled(automaton: &Automaton) -> u32
     requires { IsAutomaton automaton.now }
     ensures value { result ≡ outputs automaton.now.controllable }
@@ -49,7 +49,7 @@ pub fn count_controlled(automaton: &Automaton) -> u32
     count
 }
 
-/// For each proposition, whether the controller sets it.
+/// Returns for each proposition whether the controller sets it. Fails only if an allocation fails.
 pub fn marks(alloc: Global, automaton: &Automaton) -> Result<Vec<bool>, AllocError>
     requires { IsAutomaton automaton.now }
     ensures { IfOk result (λ list. list.items ≡ automaton.now.controllable) }
@@ -85,7 +85,8 @@ fn output_parts(alloc: Global, controllable: &[bool]) -> Result<Vec<u32>, AllocE
     Ok(list)
 }
 
-/// How many input letters there are.
+/// Returns the number of input letters. `controllable` says for each proposition, of which there are at most 16, whether the controller
+/// sets it.
 pub fn count_input_letters(controllable: &[bool]) -> u32
     requires { length controllable.now ≤ 16 }
     ensures { result ≡ 2 ^ inputs controllable.now }
@@ -99,7 +100,7 @@ pub fn count_input_letters(controllable: &[bool]) -> u32
     }
 }
 
-/// How many output letters there are.
+/// Returns the number of output letters.
 fn count_output_letters(controllable: &[bool]) -> u32
     requires { length controllable.now ≤ 16 }
     ensures { result ≡ 2 ^ outputs controllable.now }
@@ -113,7 +114,8 @@ fn count_output_letters(controllable: &[bool]) -> u32
     }
 }
 
-/// The letter with these parts.
+/// Returns the letter with this input part and this output part. `controllable` says for each proposition, of which there are at most 16,
+/// whether the controller sets it. Surplus bits of the parts are ignored.
 pub fn joined(controllable: &[bool], input: u32, output: u32) -> u32
     requires { length controllable.now ≤ 16 }
     ensures { result ≡ joined controllable.now input output }

@@ -17,7 +17,7 @@ use pg_arena::{ArenaFault, Game, GameBuilder, MAX_EDGES};
 use pg_hoa_automaton::Automaton;
 use std::alloc::{AllocError, Global};
 
-/// The identifiers of all vertices, the least first.
+/// Returns the identifiers of all vertices in rising order.
 pub(crate) fn identifiers_of(
     alloc: Global,
     automaton: &Automaton,
@@ -37,7 +37,7 @@ pub(crate) fn identifiers_of(
     Ok(list)
 }
 
-/// Whether the vertices with these identifiers have no more edges together than a game may have.
+/// Whether the vertices with these identifiers together have no more edges than a game may have.
 pub(crate) fn has_few_edges(
     alloc: Global,
     automaton: &Automaton,
@@ -62,7 +62,7 @@ pub(crate) fn has_few_edges(
     Ok(true)
 }
 
-/// The game whose vertices have these identifiers. Refuses for memory only.
+/// Builds the game whose vertices have these identifiers. Fails only if memory runs out.
 pub(crate) fn built(
     alloc: Global,
     automaton: &Automaton,
@@ -92,8 +92,8 @@ pub(crate) fn built(
     builder.finish()
 }
 
-/// Adds the vertex with an identifier, whose successors and name are made in vectors that are kept, in place of what they
-/// held. Refuses for memory only.
+/// Adds the vertex with this identifier. Its successors and its name are built in the given vectors, whose contents are replaced. Fails
+/// only if memory runs out.
 fn add_vertex(
     builder: &mut GameBuilder,
     successors: &mut Vec<u32>,
@@ -115,7 +115,7 @@ fn add_vertex(
     builder.add(identifier, priority, place.owner(), successors, Some(name))
 }
 
-/// Makes the list that of the identifiers of the places to which a place leads, letter by letter.
+/// Replaces the list with the identifiers of the places to which a place leads, letter by letter.
 fn put_leads(
     list: &mut Vec<u32>,
     automaton: &Automaton,
@@ -178,7 +178,7 @@ fn push_answers(
     Ok(())
 }
 
-/// The identifier of the answer at a state to the first input letter; those to the others follow it.
+/// Returns the identifier of the answer at a state to the first input letter. The answers to the other letters follow it.
 pub(crate) fn first_answer(automaton: &Automaton, layout: &Layout, state: u32) -> u32
     requires laid { IsLayoutOf automaton.now layout.now }
     requires state { state < automaton.now.states }
@@ -187,7 +187,7 @@ pub(crate) fn first_answer(automaton: &Automaton, layout: &Layout, state: u32) -
     1 + state * layout.width + automaton.sets() + 1
 }
 
-/// The identifier of the place to which a letter leads from a state.
+/// Returns the identifier of the place to which a letter leads from a state.
 pub(crate) fn target(automaton: &Automaton, layout: &Layout, state: u32, letter: u32) -> u32
     requires laid { IsLayoutOf automaton.now layout.now }
     requires state { state < automaton.now.states }
@@ -206,7 +206,7 @@ pub(crate) fn target(automaton: &Automaton, layout: &Layout, state: u32, letter:
     }
 }
 
-/// Sorts the list and leaves each number once.
+/// Sorts the list and keeps each number only once.
 fn put_each_once(list: &mut Vec<u32>)
     ensures { list.new.items ≡ rising list.old.items }
 {

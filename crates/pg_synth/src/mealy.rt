@@ -5,16 +5,16 @@ ghost use Rattle.pg_synth.specs.Machines.{IsMachine, reply};
 
 use std::marker::Model;
 
-/// What a state replies to an input letter.
+/// A state's reply to an input letter.
 #[derive(Clone, Copy)]
 pub(crate) struct Reply {
     pub output: u32,
     pub next: u32,
 }
 
-/// A Mealy machine. It starts in state 0. In each step it reads an input letter, gives an output letter and goes to the
-/// next state. Bit j of an input letter is the j-th proposition of the environment, and bit j of an output letter the
-/// j-th of the controller, counted from 0 in the order of the automaton.
+/// A Mealy machine. It starts in state 0. In each step it reads an input letter, gives an output letter and goes to the next state. Bit j
+/// of an input letter is the environment's j-th proposition, and bit j of an output letter the controller's j-th, counted from 0 in the
+/// order of the automaton.
 #[derive(Drop)]
 pub struct Mealy {
     states: u32,
@@ -49,7 +49,7 @@ impl Mealy {
         }
     }
 
-    /// The number of states, from 1 to 65,535.
+    /// Returns the number of states, from 1 to 65,535.
     pub fn states(&self) -> u32
         ensures value { result ≡ self.now.states }
         ensures machine { IsMachine self.now }
@@ -57,21 +57,22 @@ impl Mealy {
         self.states
     }
 
-    /// The number of propositions in an input letter.
+    /// Returns the number of propositions in an input letter.
     pub fn inputs(&self) -> u32
         ensures { result ≡ self.now.inputs }
     {
         self.inputs
     }
 
-    /// The number of propositions in an output letter.
+    /// Returns the number of propositions in an output letter.
     pub fn outputs(&self) -> u32
         ensures { result ≡ self.now.outputs }
     {
         self.outputs
     }
 
-    /// The output letter in a state for an input letter, and the next state.
+    /// Returns the output letter that a state gives for an input letter, and the next state. `state` must be below `states()`, and
+    /// `input` below 2 to the power of `inputs()`.
     pub fn step(&self, state: u32, input: u32) -> (u32, u32)
         requires state { state < self.now.states }
         requires input { input < 2 ^ self.now.inputs }

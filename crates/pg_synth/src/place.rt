@@ -14,17 +14,16 @@ use std::alloc::AllocError;
 /// output letter at an answer.
 #[derive(Clone, Copy, Debug, PartialEq, Eq)]
 pub enum Place {
-    /// The run has ended: the last letter has no edge.
+    /// The run has ended: there was no edge for the last letter.
     Dead,
-    /// The run has arrived at the state. The set is the one that decides among those met on the way; None if the step
-    /// met no set.
+    /// The run has arrived at the state. The set is the one that decides among those met on the way, or `None` if the step met no set.
     Arrival(u32, Option<u32>),
     /// The run is at the state, and Odd has chosen this input letter.
     Answer(u32, u32),
 }
 
 impl Place {
-    /// The place with an identifier, where there are so many sets and each state has so many identifiers.
+    /// Returns the place with this identifier, given the number of sets and the number of identifiers per state.
     pub(crate) fn with_identifier(identifier: u32, sets: u32, width: u32) -> Place
         requires wide { 0 < width }
         requires few { sets ≤ 4096 }
@@ -44,7 +43,7 @@ impl Place {
         }
     }
 
-    /// Who goes on from it.
+    /// Returns the player who moves from the place.
     pub(crate) fn owner(self) -> Player
         ensures { result ≡ place_owner self }
     {
@@ -54,7 +53,7 @@ impl Place {
         }
     }
 
-    /// Its priority, under an acceptance of the shape over so many sets.
+    /// Returns the priority of the place, under an acceptance of the shape over `sets` sets.
     pub(crate) fn priority(self, shape: Shape, sets: u32) -> u32
         requires few { sets ≤ 4096 }
         requires below { HasSetBelow sets self }
@@ -68,7 +67,7 @@ impl Place {
         }
     }
 
-    /// Makes the text that of its name.
+    /// Replaces the text with the name of the place.
     pub(crate) fn put_name(self, name: &mut Vec<u8>) -> Result<(), AllocError>
         ensures { OnOk result (name.new.items ≡ place_name self) }
     {
@@ -115,7 +114,7 @@ fn set_priority(shape: Shape, sets: u32, set: u32) -> u32
     }
 }
 
-/// The set of a step that counts under a shape.
+/// Returns the set that decides among those that a step meets, under a shape: the first or the last one.
 pub(crate) fn deciding(shape: Shape, sets: &[u32]) -> Option<u32>
     ensures { result ≡ deciding shape sets.now }
 {
@@ -125,7 +124,7 @@ pub(crate) fn deciding(shape: Shape, sets: &[u32]) -> Option<u32>
     }
 }
 
-/// The priority of a step that meets these sets, of so many.
+/// Returns the priority of a step that meets the sets `met`, in rising order, in an automaton with `sets` sets, at most 4,096.
 pub fn priority_of(shape: Shape, sets: u32, met: &[u32]) -> u32
     requires few { sets ≤ 4096 }
     requires below { All (λ s. s < sets) met.now }

@@ -1,9 +1,10 @@
-//! An automaton that is read, and outputs that are named apart from a text. More are shown by `tests/reading.py` and by rows of the program.
+//! An automaton that is read, and outputs that are named apart from a text. `tests/reading.py` and rows of the program show
+//! more of them.
 
 use pg_hoa::{Automaton, Shape, read_automaton, with_outputs};
 use std::test::Fail;
 
-/// Whether each reader says what the text has. The sets of the state and of the edge are met by the one step that there is.
+/// Whether each accessor returns what the text has. The only step meets the sets of the state and of the edge.
 fn is_read(automaton: &Automaton) -> bool {
     automaton.states() == 3
         && automaton.start() == 2
@@ -16,7 +17,7 @@ fn is_read(automaton: &Automaton) -> bool {
         && automaton.next(2, 3).is_none()
 }
 
-/// Whether there are two propositions, of which the second one alone is the controller's.
+/// Whether there are two propositions, of which only the second one is the controller's.
 fn controls_the_second(automaton: &Automaton) -> bool {
     automaton.propositions() == 2 && !automaton.controllable(0) && automaton.controllable(1)
 }

@@ -1,5 +1,5 @@
-//! The circuit of a machine that follows a solution of the game of an automaton, and its text. More are shown by the rows of `game` and of
-//! `synth`.
+//! The circuit of a machine that follows a solution of an automaton's game, and the circuit's text. The rows of `game` and
+//! of `synth` show more of them.
 
 ghost use Rattle.std.specs.Prelude.{◌≡◌, length};
 ghost use Rattle.pg_synth.specs.Letters.{inputs, outputs};
@@ -14,7 +14,7 @@ use std::alloc::Global;
 use std::io;
 use std::test::Fail;
 
-/// Over r and g: g is what r was one step before, and false at first.
+/// Over r and g: g is the value of r one step before, and false at first.
 const DELAY: &[u8] =
     b"HOA: v1\nStates: 2\nStart: 0\nAP: 2 \"r\" \"g\"\ncontrollable-AP: 1\nAcceptance: 2 Fin(1) & Inf(0)\n\
     --BODY--\nState: 0\n[!0&!1] 0 {0}\n[0&!1] 1 {0}\nState: 1\n[!0&1] 0 {0}\n[0&1] 1 {0}\n--END--\n";
@@ -33,7 +33,7 @@ struct Made {
     ghost as_many_outputs: { length circuit.outputs ≡ outputs automaton.controllable },
 }
 
-/// Whether the machine has two states, of which each sets g as it is and goes to that of r.
+/// Whether the machine has two states, each of which sets g to its own number and goes to the state with the number r.
 fn delays(machine: &Mealy) -> bool {
     machine.inputs() == 1
         && machine.outputs() == 1
@@ -82,7 +82,7 @@ fn a_circuit_follows_its_machine(rt: HostRuntime) -> Result<(), Fail> {
     Ok(())
 }
 
-/// A writer that takes so many bytes and then fails.
+/// A writer that takes `room` bytes and then fails.
 #[derive(Drop)]
 struct Full {
     room: usize,
@@ -109,7 +109,7 @@ fn has_text(alloc: Global, made: &Made, text: &[u8]) -> Result<bool, AigerFault>
     Ok(written.as_slice() == text)
 }
 
-/// Whether a writer that takes so many bytes doesn't take it.
+/// Whether writing the circuit to a writer that takes `room` bytes fails.
 fn is_refused(made: &Made, room: usize) -> bool {
     let mut full = Full { room };
     write_circuit(&made.circuit, &made.automaton, &mut full) == Err(AigerFault::Write)

@@ -6,12 +6,12 @@ use Rattle.pg_arena.specs.Lines.{Line, lines_of}
 use Rattle.pg_text.specs.GameText.{player_number}
 use Rattle.pg_text.specs.Numbers.{numbers_text}
 
--- a space, and the name in quotes as it stands
+-- a space, and the name in quotes as it is
 abbrev pub name_text : Option (List ℕ) → List ℕ
 name_text None = []
 name_text (Some name) = codes " \"" ++ (name ++ codes "\"")
 
--- identifier, priority, owner and successors with single spaces between, the name, a semicolon and a newline
+-- identifier, priority, owner and successors separated by single spaces, the name, a semicolon and a newline
 abbrev pub line_text : Line → List ℕ
 line_text line =
     decimal line.identifier ++ (codes " " ++ (decimal line.priority ++ (codes " " ++

@@ -1,4 +1,4 @@
--- What a game text is, by tokens.
+-- What a game text is, token by token.
 use Rattle.std.specs.Prelude.{◌≡◌, ◌≢◌, ◌⊎◌, ℕ, List, [], ◌∷◌, ◌++◌, Option, Some, None, codes, map}
 use Rattle.std.specs.List.{flat_map, AllByRecursion}
 use Rattle.pg_arena.specs.declared.player.Player.{Player}
@@ -26,13 +26,13 @@ abbrev pub line_lexemes : Line → List Lexeme
 line_lexemes line = number line.identifier ∷ number line.priority ∷ number (player_number line.owner) ∷
     (numbers_lexemes line.successors ++ (name_lexemes line.name ++ semicolon ∷ []))
 
--- perhaps a header, perhaps a start, the lines, and what follows them
+-- perhaps a header, perhaps a start, the lines, and the tokens after them
 abbrev pub game_lexemes : Option ℕ → Option ℕ → List Line → List Lexeme → List Lexeme
 game_lexemes header start lines others =
     clause_lexemes (codes "parity") header ++ (clause_lexemes (codes "start") start ++
     (flat_map line_lexemes lines ++ others))
 
--- The bytes are a text of these lines, in this order. The numbers of the header and of the start may be any.
+-- The bytes are a text of these lines, in this order. The header and the start may have any numbers.
 pub record IsText (bytes : List ℕ) (lines : List Line) : Type 0 where
   pub header : Option ℕ
   pub start : Option ℕ
@@ -47,7 +47,7 @@ pub record IsGameText (bytes : List ℕ) (game : List GameVertex) : Type 0 where
   pub limits : Accepts [] lines
   pub game_of : IsGameOf (map counted lines) game
 
--- The bytes are no text of lines: behind whole lines that keep the limits stands neither a line nor the end.
+-- The bytes are no text of lines: after whole lines that keep the limits comes neither a line nor the end.
 pub record IsNoText (bytes : List ℕ) : Type 0 where
   pub header : Option ℕ
   pub start : Option ℕ
@@ -59,7 +59,7 @@ pub record IsNoText (bytes : List ℕ) : Type 0 where
   pub no_end : ¬ Spells here (end ∷ []) []
   pub no_text : (lines : List Line) → ¬ IsText bytes lines
 
--- no game is spelt
+-- the bytes spell no game
 abbrev pub SpellsNoGame : List ℕ → Type 0
 SpellsNoGame bytes = (game : List GameVertex) → ¬ IsGameText bytes game
 

@@ -8,7 +8,7 @@ use Rattle.pg_text.specs.declared.tokens.Token.TheVariants as tokens
 use Rattle.pg_text.specs.declared.tokens.TokenFault.{TokenFault}
 use Rattle.pg_text.specs.declared.tokens.TokenFault.TheVariants.{Syntax, NumberTooLarge}
 
--- A token without where it lies in memory; `end` stands behind the last one.
+-- A token, apart from its place in memory; `end` comes after the last one.
 pub data Lexeme : Type 0 where
   number : ℕ → Lexeme
   word : List ℕ → Lexeme
@@ -37,7 +37,7 @@ is_letter b = nat_le 97 b && nat_le b 122
 abbrev pub is_plain : ℕ → Bool
 is_plain b = if b == 34 then false else true
 
--- The bytes of one token, and what may stand behind it: a run of digits or of letters is a longest one.
+-- The bytes of one token, and the bytes that may follow it: a run of digits or of letters is as long as possible.
 abbrev pub IsSpelt : Lexeme → List ℕ → List ℕ → Type 0
 IsSpelt (number n) text rest =
     (text ≢ []) × Each is_digit text × Stops is_digit rest × (value_of text ≡ n) × (n < 2 ^ 32)
@@ -65,20 +65,20 @@ abbrev pub clause_lexemes : List ℕ → Option ℕ → List Lexeme
 clause_lexemes name None = []
 clause_lexemes name (Some n) = word name ∷ number n ∷ semicolon ∷ []
 
--- behind the white space in front
+-- the bytes after the white space at the start
 abbrev pub after_space : List ℕ → List ℕ
 after_space bytes = drop (prefix_len is_space bytes) bytes
 
--- why no token stands at the very front: a number there can only be too large
+-- why no token is at the very start: a number there can only be too large
 abbrev pub fault_at : List ℕ → TokenFault
 fault_at [] = Syntax 0
 fault_at (b ∷ bytes) = if is_digit b then NumberTooLarge (length (b ∷ bytes)) else Syntax (length (b ∷ bytes))
 
--- why no token begins; the fault is at the token's first byte, and says how many bytes are left from there
+-- why no token begins; the fault is at the token's first byte, and has the number of bytes left from there on
 abbrev pub token_fault : List ℕ → TokenFault
 token_fault bytes = fault_at (after_space bytes)
 
--- how many bytes are left from the token at fault on
+-- the number of bytes left from the token at fault on
 abbrev pub left_of : TokenFault → ℕ
 left_of (Syntax left) = left
 left_of (NumberTooLarge left) = left

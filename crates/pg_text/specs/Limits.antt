@@ -5,8 +5,8 @@ use Rattle.pg_arena.specs.Games.{GameVertex, identifiers, edge_count}
 use Rattle.pg_arena.specs.Lines.{Line, counted, is_named, Accepts}
 use Rattle.pg_text.specs.GameText.{IsGameText}
 
--- No two lines have one identifier, no priority is above 65,535, each line has a successor, and there are at most
--- 1,048,576 lines and, a repeated successor counted once, at most 8,388,608 edges.
+-- No two lines have the same identifier, no priority is above 65,535, each line has a successor, and there are at most
+-- 1,048,576 lines and, with a repeated successor counted once, at most 8,388,608 edges.
 pub record AreWithinLimits (lines : List Line) : Type 0 where
   pub distinct : IsDistinct nat_eq (identifiers lines)
   pub priorities : All (λ line. line.priority ≤ 65535) lines

@@ -1,4 +1,4 @@
--- One text spells one game, and for one game one text spells one solution.
+-- A text spells at most one game, and for a given game at most one solution.
 use Rattle.std.specs.Prelude.{◌≡◌, ℕ, List}
 use Rattle.pg_arena.specs.Games.{GameVertex, IsGame}
 use Rattle.pg_text.specs.declared.answer.Answer.{Answer}

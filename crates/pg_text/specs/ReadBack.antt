@@ -6,7 +6,7 @@ use Rattle.pg_list_lemmas.specs.Bytes.{Each}
 use Rattle.pg_text.specs.GameText.{IsGameText}
 use Rattle.pg_text.specs.GameLayout.{game_text}
 
--- What the format can say: identifiers and priorities within their limits, and no quote in a name.
+-- What the format can express: identifiers and priorities within their limits, and no quote in a name.
 pub record IsPrintable (game : List GameVertex) : Type 0 where
   pub identifiers : All (λ x. x.identifier < 2 ^ 32) game
   pub priorities : HasPrioritiesUpTo 65535 game

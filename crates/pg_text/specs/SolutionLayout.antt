@@ -1,4 +1,4 @@
--- The layout in which a solution is printed, and what it tells of the solution.
+-- The layout in which a solution is printed, and what it says of the solution.
 use Rattle.std.specs.Prelude.{ℕ, ◌-◌, List, [], ◌++◌, Option, Some, None, length, map, codes, decimal, option_map, if◌then◌else◌}
 use Rattle.std.specs.List.{flat_map, range_with_len}
 use Rattle.pg_arena.specs.Games.{GameVertex, identifier}
@@ -8,7 +8,7 @@ use Rattle.pg_text.specs.Solutions.{winner, choice}
 use Rattle.pg_text.specs.GameText.{player_number}
 use Rattle.pg_text.specs.SolutionText.{owns}
 
--- the answer at v, without a choice where the winner doesn't own v
+-- the answer at v, without a choice if the winner doesn't own v
 abbrev pub printed_answer : List GameVertex → List Answer → ℕ → Answer
 printed_answer game solution v = record {
   winner = winner solution v;
@@ -19,7 +19,7 @@ printed_answer game solution v = record {
 abbrev pub printed_answers : List GameVertex → List Answer → List Answer
 printed_answers game solution = map (printed_answer game solution) (range_with_len 0 (length game))
 
--- the line of v: a strategy stands exactly where the winner owns v
+-- the line of v: it has a strategy exactly if the winner owns v
 abbrev pub printed_line : List GameVertex → List Answer → ℕ → SolutionLine
 printed_line game solution v = record {
   identifier = identifier game v;
@@ -36,7 +36,7 @@ abbrev pub strategy_text : Option ℕ → List ℕ
 strategy_text None = []
 strategy_text (Some n) = codes " " ++ decimal n
 
--- identifier, winner and perhaps the strategy with single spaces between, a semicolon and a newline
+-- identifier, winner and perhaps the strategy, separated by single spaces, a semicolon and a newline
 abbrev pub answer_text : SolutionLine → List ℕ
 answer_text line =
     decimal line.identifier ++ (codes " " ++ (decimal (player_number line.winner) ++

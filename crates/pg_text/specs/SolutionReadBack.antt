@@ -6,8 +6,8 @@ use Rattle.pg_text.specs.Solutions.{IsSolution}
 use Rattle.pg_text.specs.SolutionText.{IsSolutionText}
 use Rattle.pg_text.specs.SolutionLayout.{printed_answers, solution_text}
 
--- Where the identifiers are within their limit, the text of a solution spells its winners and its choices on vertices
--- that the winner owns, and nothing else.
+-- If the identifiers are within their limit, the text of a solution spells its winners and its choices on vertices that
+-- the winner owns, and nothing else.
 abbrev pub SolutionReadsBack : Type 0
 SolutionReadsBack = (game : List GameVertex) (solution : List Answer)
     → IsGame game → All (λ x. x.identifier < 2 ^ 32) game → IsSolution game solution →

@@ -1,4 +1,4 @@
--- What a solution text is, by tokens: its lines, and the solution that the lines give for a game.
+-- What a solution text is, token by token: its lines, and the solution that the lines give for a game.
 use Rattle.std.specs.Prelude.{◌≡◌, ◌≢◌, ◌⊎◌, ℕ, ◌<◌, ◌≤◌, ◌==◌, ◌&&◌, Bool, true, false, List, [], ◌∷◌, ◌++◌, Option, Some, None}
 use Rattle.std.specs.Prelude.{length, codes, count_by, is_some, option_map, if◌then◌else◌}
 use Rattle.std.specs.List.{flat_map, list_any, AllByRecursion}
@@ -29,7 +29,7 @@ answer_lexemes line =
 abbrev pub solution_lexemes : Option ℕ → List SolutionLine → List Lexeme
 solution_lexemes header lines = clause_lexemes (codes "paritysol") header ++ flat_map answer_lexemes lines
 
--- The bytes begin with these lines, in this order, and the rest follows. The header's number may be any.
+-- The bytes begin with these lines, in this order, and the rest follows. The header may have any number.
 pub record BeginsWithLines (bytes : List ℕ) (lines : List SolutionLine) (rest : List ℕ) : Type 0 where
   pub header : Option ℕ
   pub spelt : Spells bytes (solution_lexemes header lines) rest
@@ -52,12 +52,12 @@ is_same Odd Even = false
 abbrev pub owns : List GameVertex → Player → ℕ → Bool
 owns game player v = is_same player (owner game v)
 
--- the strategy that counts: one stands on a vertex that the winner owns; another is ignored
+-- the strategy that counts: one on a vertex that the winner owns; any other is ignored
 abbrev pub counting_strategy : List GameVertex → SolutionLine → ℕ → Option ℕ
 counting_strategy game line v = if owns game line.winner v then line.strategy else None
 
 -- The line names v, and the solution says at v what the line says: its winner, and the choice of the vertex that the
--- strategy names, if it counts. Where none counts there is no choice.
+-- strategy names, if it counts. If none counts, there is no choice.
 pub record Says (game : List GameVertex) (solution : List Answer) (line : SolutionLine) (v : ℕ) : Type 0 where
   pub within : v < length game
   pub named : line.identifier ≡ identifier game v
@@ -77,7 +77,7 @@ pub record IsSolutionText (bytes : List ℕ) (game : List GameVertex) (solution 
   pub said : AllByRecursion (λ line. (v : ℕ) × Says game solution line v) lines
   pub whole : IsSolution game solution
 
--- no solution of the game is spelt
+-- the bytes spell no solution of the game
 abbrev pub SpellsNoSolution : List ℕ → List GameVertex → Type 0
 SpellsNoSolution bytes game = (solution : List Answer) → ¬ IsSolutionText bytes game solution
 
@@ -90,7 +90,7 @@ pub record Fits (game : List GameVertex) (line : SolutionLine) : Type 0 where
   pub named : line.identifier ≡ identifier game v
   pub leads : (n : ℕ) → counting_strategy game line v ≡ Some n → (w : ℕ) × IsEdge game v w × (identifier game w ≡ n)
 
--- lines that a reader takes: each fits, and no two name one vertex
+-- lines that a reader takes: each fits, and no two name the same vertex
 pub record AreTaken (game : List GameVertex) (lines : List SolutionLine) : Type 0 where
   pub fitting : AllByRecursion (Fits game) lines
   pub single : (v : ℕ) → v < length game → line_count game lines v ≤ 1
@@ -99,7 +99,7 @@ pub record AreTaken (game : List GameVertex) (lines : List SolutionLine) : Type 
 abbrev pub has_line : List SolutionLine → ℕ → Bool
 has_line lines n = list_any (λ line. line.identifier == n) lines
 
--- here stands the number n, and behind it another token, or the end
+-- the number n is here, and after it another token or the end
 pub record StartsLine (here : List ℕ) (n : ℕ) : Type 0 where
   pub token : Lexeme
   pub rest : List ℕ
@@ -109,7 +109,8 @@ pub record StartsLine (here : List ℕ) (n : ℕ) : Type 0 where
 abbrev pub IsUnknown : List GameVertex → ℕ → Type 0
 IsUnknown game n = (v : ℕ) → v < length game → identifier game v ≢ n
 
--- Here stand the identifier n of a vertex, its owner as the winner, and a number that no successor has as identifier.
+-- The identifier n of a vertex is here, then its owner as the winner, and a number that no successor has as its
+-- identifier.
 pub record IsNoMove (game : List GameVertex) (here : List ℕ) (n : ℕ) : Type 0 where
   pub winner : Player
   pub strategy : ℕ
@@ -121,12 +122,12 @@ pub record IsNoMove (game : List GameVertex) (here : List ℕ) (n : ℕ) : Type 
   pub owned : owns game winner v ≡ true
   pub absent : (w : ℕ) → IsEdge game v w → identifier game w ≢ strategy
 
--- here begins a line with the identifier n, which no vertex has, or whose strategy counts and is no successor
+-- a line begins here with the identifier n, which no vertex has, or whose strategy counts and isn't a successor
 abbrev pub BeginsUnfit : List GameVertex → List ℕ → ℕ → Type 0
 BeginsUnfit game here n = (StartsLine here n × IsUnknown game n) ⊎ IsNoMove game here n
 
--- Behind lines that are taken, none of which has the identifier n, begins a line with it, and no vertex has it, or its
--- strategy counts and is no successor. How the line ends isn't asked.
+-- After lines that are taken, none of which has the identifier n, a line with n begins, and no vertex has n, or the
+-- line's strategy counts and isn't a successor. The end of the line doesn't matter.
 pub record IsNotOfGame (bytes : List ℕ) (game : List GameVertex) (n : ℕ) : Type 0 where
   pub before : List SolutionLine
   pub here : List ℕ
@@ -140,7 +141,7 @@ abbrev pub answers : List GameVertex → ℕ → SolutionLine → Bool
 answers game v line =
     (line.identifier == identifier game v) && (if owns game line.winner v then is_some line.strategy else true)
 
--- no line answers for the vertex with the identifier n, and some line for each before it
+-- no line answers for the vertex with the identifier n, and some line answers for each vertex before it
 pub record IsFirstMissing (bytes : List ℕ) (game : List GameVertex) (n : ℕ) : Type 0 where
   pub lines : List SolutionLine
   pub text : AreLines bytes lines
@@ -151,7 +152,7 @@ pub record IsFirstMissing (bytes : List ℕ) (game : List GameVertex) (n : ℕ) 
   pub missing : list_any (answers game v) lines ≡ false
   pub first : (u : ℕ) → u < v → list_any (answers game u) lines ≡ true
 
--- Behind lines that are taken begins a line with the identifier of a line before it. How it ends isn't asked.
+-- After lines that are taken, a line begins with the identifier of an earlier one. Its end doesn't matter.
 pub record IsSecond (bytes : List ℕ) (game : List GameVertex) : Type 0 where
   pub before : List SolutionLine
   pub here : List ℕ
@@ -161,8 +162,8 @@ pub record IsSecond (bytes : List ℕ) (game : List GameVertex) : Type 0 where
   pub starts : StartsLine here n
   pub twice : has_line before n ≡ true
 
--- Behind lines that are taken stands neither a line nor the end of the text, and what stands there doesn't begin as a
--- line that is refused for its identifier or its strategy.
+-- After lines that are taken comes neither a line nor the end of the text, and the bytes there don't begin like a line
+-- that is refused for its identifier or its strategy.
 pub record IsNoText (bytes : List ℕ) (game : List GameVertex) : Type 0 where
   pub before : List SolutionLine
   pub here : List ℕ

@@ -5,7 +5,7 @@ use Rattle.pg_arena.specs.declared.player.Player.TheVariants.{Even}
 use Rattle.pg_arena.specs.Games.{GameVertex, opponent, owner, IsEdge}
 use Rattle.pg_text.specs.declared.answer.Answer.{Answer}
 
--- what stands at a number past the last vertex, and at each vertex of a new solution
+-- the answer at a number past the last vertex, and at each vertex of a new solution
 abbrev pub unanswered : Answer
 unanswered = record { winner = Even; choice = None }
 
@@ -21,7 +21,7 @@ loser solution v = opponent (winner solution v)
 abbrev pub choice : List Answer → ℕ → Option ℕ
 choice solution v = (answer_at solution v).choice
 
--- A solution of a game: a winner for each vertex, and a choice among the successors where the winner owns the vertex.
+-- A solution of a game: a winner for each vertex, and a choice among the successors if the winner owns the vertex.
 pub record IsSolution (game : List GameVertex) (solution : List Answer) : Type 0 where
   pub whole : length solution ≡ length game
   pub chosen : (v : ℕ) → v < length game → owner game v ≡ winner solution v

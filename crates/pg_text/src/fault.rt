@@ -83,7 +83,7 @@ impl From<io::Error> for TextFault {
 }
 
 impl TokenFault {
-    /// The fault in a text of this many bytes.
+    /// Returns the fault in a text of this many bytes.
     pub(crate) fn in_text(self, len: usize) -> TextFault
         ensures { result ≡ token_fault_of len self }
     {
@@ -95,7 +95,7 @@ impl TokenFault {
 }
 
 impl Refusal {
-    /// The fault in a text of this many bytes.
+    /// Returns the fault in a text of this many bytes.
     pub(crate) fn in_text(self, len: usize) -> TextFault
         ensures { result ≡ fault_of len self }
     {

@@ -10,7 +10,7 @@ use crate::line::{body, item};
 use pg_arena::{Game, GameBuilder};
 use std::alloc::Global;
 
-/// A builder with the lines of the text.
+/// Returns a builder with the lines of the text.
 fn builder_of(alloc: Global, bytes: &[u8]) -> Result<GameBuilder, TextFault>
     ensures { BuildsLines bytes.now result }
 {

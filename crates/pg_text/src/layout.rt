@@ -23,7 +23,7 @@ fn write_name<W: Write>(name: Option<&[u8]>, out: &mut W) -> io::Result<()>
     Ok(())
 }
 
-/// The owner's number between two spaces.
+/// Writes the owner's number between two spaces.
 fn write_owner<W: Write>(owner: Player, out: &mut W) -> io::Result<()>
     ensures { OnOk result (Appends (W.contents out.old) (W.contents out.new)
         (codes " " ++ (decimal (player_number owner) ++ codes " "))) }

@@ -13,7 +13,7 @@ use crate::tokens::{TokenFault, after_byte, after_first, after_space};
 use pg_arena::Player;
 use std::alloc::AllocError;
 
-/// A line as it stands in the text, but for its successors.
+/// A line as it is in the text, without its successors.
 #[derive(Clone, Copy)]
 pub(crate) struct TextLine<'a> {
     pub(crate) identifier: u32,
@@ -22,7 +22,7 @@ pub(crate) struct TextLine<'a> {
     pub(crate) name: Option<&'a [u8]>,
 }
 
-/// The player in front, by its number.
+/// Reads the player at the start, by its number.
 #[tactic(auto, unfolding(crate::specs::Mirrors::GameScan::owner_at))]
 #[inline(always)]
 pub(crate) fn player(bytes: &[u8]) -> Result<(Player, &[u8]), TokenFault>
@@ -35,7 +35,7 @@ pub(crate) fn player(bytes: &[u8]) -> Result<(Player, &[u8]), TokenFault>
     }
 }
 
-/// The name behind the successors, where one stands, and the semicolon.
+/// Reads the name after the successors, if there is one, and the semicolon.
 fn ending(bytes: &[u8]) -> Result<(Option<&[u8]>, &[u8]), TokenFault>
     ensures { Reads (λ x. (option_copied x.0, x.1.now)) result (ending_at bytes.now) }
 {
@@ -46,8 +46,8 @@ fn ending(bytes: &[u8]) -> Result<(Option<&[u8]>, &[u8]), TokenFault>
     Ok((Some(name), semicolon(rest)?))
 }
 
-/// Makes room for one more number. Where there is none, repeats are taken away first, and there is room for as many numbers
-/// again then, so that a list is seldom sorted.
+/// Makes room for one more number. If there is none, it first removes repeats and then makes room for as many numbers
+/// again, so that a list is seldom sorted.
 #[inline(always)]
 fn make_room(list: &mut Vec<u32>) -> Result<(), AllocError>
     ensures { rising list.new.items ≡ rising list.old.items }
@@ -60,8 +60,8 @@ fn make_room(list: &mut Vec<u32>) -> Result<(), AllocError>
     list.reserve(list.len())
 }
 
-/// One or more successors with commas between, in the place of what the list held. Repeats may be left out, and the order
-/// may change.
+/// Reads one or more successors separated by commas, which replace the contents of the list. Repeats may be left out,
+/// and the order may change.
 #[tactic(auto, unfolding(crate::specs::Mirrors::GameScan::successors_at, crate::specs::Mirrors::Parts::numbers_at))]
 #[inline(always)]
 fn successors<'a>(list: &mut Vec<u32>, bytes: &'a [u8]) -> Result<&'a [u8], Refusal>
@@ -82,7 +82,7 @@ fn successors<'a>(list: &mut Vec<u32>, bytes: &'a [u8]) -> Result<&'a [u8], Refu
     }
 }
 
-/// A line behind its identifier. Its successors, of which repeats count once, take the place of what the buffer held.
+/// Reads a line after its identifier. Its successors, of which repeats count once, replace the contents of the buffer.
 #[tactic(auto, unfolding(crate::specs::Mirrors::GameScan::counted_line_at))]
 #[inline(always)]
 fn line<'a>(
@@ -106,7 +106,8 @@ fn line<'a>(
     Ok((line, rest))
 }
 
-/// A line, whose successors the buffer then holds, or nothing at the end of the text, however they are written.
+/// Reads a line, however it is written, or returns None at the end of the text. The buffer then holds the line's
+/// successors.
 #[inline(never)]
 fn any_item<'a>(
     buffer: &mut Vec<u32>,
@@ -123,7 +124,7 @@ fn any_item<'a>(
     Ok((Some(line), rest))
 }
 
-/// Whether the successors in front of `bytes` end there: no comma stands there, but a token.
+/// Whether the successors before `bytes` end there: a token that isn't a comma comes next.
 #[inline(always)]
 fn is_end(bytes: &[u8]) -> bool
     ensures { IsTrue result → further_at bytes.now ≡ Ok (stop tt, bytes.now) }
@@ -137,8 +138,9 @@ fn is_end(bytes: &[u8]) -> bool
     }
 }
 
-/// One or more successors with commas between and no white space ahead of these, in the place of what the list held: what
-/// `successors` gives, where this function gives something. Repeats may be left out, and the order may change.
+/// Reads one or more successors separated by commas with no white space before these. They replace the contents of the
+/// list. If this function returns something, it is what `successors` returns. Repeats may be left out, and the order
+/// may change.
 #[tactic(auto, unfolding(crate::specs::Mirrors::GameScan::successors_at, crate::specs::Mirrors::Parts::numbers_at))]
 #[inline(always)]
 fn plain_successors<'a>(list: &mut Vec<u32>, bytes: &'a [u8]) -> Option<&'a [u8]>
@@ -171,7 +173,7 @@ fn plain_successors<'a>(list: &mut Vec<u32>, bytes: &'a [u8]) -> Option<&'a [u8]
     }
 }
 
-/// A line as programs print it: what `item` gives, where it gives a line and this function does.
+/// Reads a line as programs print it. If both `item` and this function return a line, it is the same one.
 #[inline(always)]
 fn plain_line<'a>(buffer: &mut Vec<u32>, bytes: &'a [u8]) -> Option<(TextLine<'a>, &'a [u8])>
     ensures { IfSome result (λ x. counted_item_at bytes.now ≡ Ok (item (counted (line_seen buffer.new.items x.0)), x.1.now)) }
@@ -201,7 +203,7 @@ fn plain_line<'a>(buffer: &mut Vec<u32>, bytes: &'a [u8]) -> Option<(TextLine<'a
     Some((TextLine { name, ..line }, rest))
 }
 
-/// A line, whose successors the buffer then holds, or nothing at the end of the text.
+/// Reads a line, or returns None at the end of the text. The buffer then holds the line's successors.
 #[inline(always)]
 pub(crate) fn item<'a>(
     buffer: &mut Vec<u32>,
@@ -215,7 +217,7 @@ pub(crate) fn item<'a>(
     }
 }
 
-/// What stands behind the header and the start, each of which may be left out.
+/// Returns the bytes after the header and the start, each of which may be left out.
 #[tactic(auto, unfolding(crate::specs::Mirrors::GameScan::body_at))]
 pub(crate) fn body(bytes: &[u8]) -> Result<&[u8], TokenFault>
     ensures { Reads (λ x. x.now) result (body_at bytes.now) }

@@ -1,6 +1,6 @@
 //! Readers for parts of texts: numbers, words, semicolons, clauses, and lists of numbers with commas.
 //!
-//! Each function reads what is at the front, after white space, and returns it with the remaining bytes. If something
+//! Each function reads a part at the start, after white space, and returns it with the remaining bytes. If something
 //! else is there, it returns a fault at the first wrong token: `NumberTooLarge` for a number over 4,294,967,295, and
 //! otherwise `Syntax`.
 
@@ -49,7 +49,7 @@ impl<T: Drop> From<AllocFailed<T>> for Refusal {
 }
 
 impl TokenFault {
-    /// The offset of the token at fault in a text of this many bytes.
+    /// Returns the offset of the token at fault in a text of this many bytes.
     pub fn offset_in(self, len: usize) -> usize
         ensures { result ≡ len - left_of self }
     {
@@ -59,14 +59,14 @@ impl TokenFault {
     }
 }
 
-/// Refuses the next token, where another one has to stand.
+/// Returns `Syntax` at the next token, where another one must come.
 pub fn unexpected(bytes: &[u8]) -> TokenFault
     ensures { result ≡ unexpected bytes.now }
 {
     TokenFault::Syntax(left_at(bytes))
 }
 
-/// Refuses the next token, where another one has to stand: by its own fault where it is none.
+/// Returns the fault at the next token, where another one must come: its own fault if no token can be read there.
 #[tactic(auto, unfolding(crate::specs::Mirrors::Parts::misplaced))]
 #[cold]
 #[inline(never)]
@@ -79,7 +79,7 @@ pub(crate) fn misplaced(bytes: &[u8]) -> TokenFault
     }
 }
 
-/// Reads the number at the front.
+/// Reads the number at the start.
 #[inline(always)]
 pub fn natural(bytes: &[u8]) -> Result<(u32, &[u8]), TokenFault>
     ensures { Reads (λ x. (x.0, x.1.now)) result (natural_at bytes.now) }
@@ -90,7 +90,7 @@ pub fn natural(bytes: &[u8]) -> Result<(u32, &[u8]), TokenFault>
     }
 }
 
-/// The number in front, however it is written.
+/// Reads the number at the start, however it is written.
 #[inline(never)]
 fn any_number(bytes: &[u8]) -> Result<(u32, &[u8]), TokenFault>
     ensures { Reads (λ x. (x.0, x.1.now)) result (natural_at bytes.now) }
@@ -102,7 +102,7 @@ fn any_number(bytes: &[u8]) -> Result<(u32, &[u8]), TokenFault>
     }
 }
 
-/// Reads the word at the front.
+/// Reads the word at the start.
 #[tactic(auto, unfolding(crate::specs::Mirrors::Parts::name_at))]
 pub fn word(bytes: &[u8]) -> Result<(&[u8], &[u8]), TokenFault>
     ensures { Reads (λ x. (x.0.now, x.1.now)) result (name_at bytes.now) }
@@ -113,7 +113,7 @@ pub fn word(bytes: &[u8]) -> Result<(&[u8], &[u8]), TokenFault>
     }
 }
 
-/// The string in front, without its quotes.
+/// Reads the string at the start, and returns it without its quotes.
 #[tactic(auto, unfolding(crate::specs::Mirrors::Parts::string_at))]
 pub(crate) fn string(bytes: &[u8]) -> Result<(&[u8], &[u8]), TokenFault>
     ensures { Reads (λ x. (x.0.now, x.1.now)) result (string_at bytes.now) }
@@ -124,7 +124,7 @@ pub(crate) fn string(bytes: &[u8]) -> Result<(&[u8], &[u8]), TokenFault>
     }
 }
 
-/// Reads the semicolon at the front, and returns the bytes after it.
+/// Reads the semicolon at the start, and returns the bytes after it.
 #[inline(always)]
 pub fn semicolon(bytes: &[u8]) -> Result<&[u8], TokenFault>
     ensures { Reads (λ x. x.now) result (semicolon_at bytes.now) }
@@ -147,7 +147,7 @@ pub fn end(bytes: &[u8]) -> Result<(), TokenFault>
 }
 
 /// Reads a clause: this word, a number and a semicolon. It returns the number, or None and all the bytes if the word
-/// isn't at the front.
+/// isn't at the start.
 #[tactic(auto, unfolding(crate::specs::Mirrors::Parts::clause_at))]
 pub fn clause<'a>(name: &[u8], bytes: &'a [u8]) -> Result<(Option<u32>, &'a [u8]), TokenFault>
     ensures { Reads (λ x. (x.0, x.1.now)) result (clause_at name.now bytes.now) }
@@ -162,7 +162,7 @@ pub fn clause<'a>(name: &[u8], bytes: &'a [u8]) -> Result<(Option<u32>, &'a [u8]
     }
 }
 
-/// The number behind the comma in front, if one stands there.
+/// Reads a comma and the number after it. None if there is no comma.
 #[tactic(auto, unfolding(crate::specs::Mirrors::Parts::further_at))]
 pub(crate) fn further(bytes: &[u8]) -> Result<Option<(u32, &[u8])>, TokenFault>
     ensures { Reads (further_seen bytes.now) result (further_at bytes.now) }
@@ -179,7 +179,8 @@ pub(crate) fn further(bytes: &[u8]) -> Result<Option<(u32, &[u8])>, TokenFault>
     }
 }
 
-/// Reads one or more numbers separated by commas. They replace what the list held.
+/// Reads one or more numbers separated by commas. They replace the contents of the list. Fails with `Memory` if memory
+/// runs out.
 #[tactic(auto, unfolding(crate::specs::Mirrors::Parts::numbers_at))]
 pub fn numbers<'a>(list: &mut Vec<u32>, bytes: &'a [u8]) -> Result<&'a [u8], Refusal>
     ensures { Gives (λ rest. (list.new.items, rest.now)) result (numbers_at bytes.now) }

@@ -29,7 +29,7 @@ impl Model for Solution {
 impl Solution {
     ghost use Rattle.pg_text.specs.declared.answer.Answer.{Answer};
 
-    /// A solution in which Even wins every vertex, without choices. Fails only if memory runs out.
+    /// Returns a solution in which Even wins every vertex, without choices. Fails only if memory runs out.
     pub fn new(alloc: Global, game: &Game) -> Result<Solution, AllocError>
         ensures { IfOk result (λ s. s ≡ replicate (length game.now) unanswered) }
     {
@@ -41,7 +41,7 @@ impl Solution {
         Ok(Solution { answers })
     }
 
-    /// The number of vertices.
+    /// Returns the number of vertices.
     pub fn len(&self) -> usize
         ensures { result ≡ length self.now }
     {
@@ -56,7 +56,7 @@ impl Solution {
         self.answers[v.0 as usize] = Answer { winner, choice };
     }
 
-    /// The winner of a vertex.
+    /// Returns the winner of a vertex.
     pub fn winner(&self, v: Vertex) -> Player
         requires { v < length self.now }
         ensures { result ≡ winner self.now v }
@@ -64,7 +64,7 @@ impl Solution {
         self.answers[v.0 as usize].winner
     }
 
-    /// The successor that the winner chooses at a vertex, if there is a choice.
+    /// Returns the successor that the winner chooses at a vertex, if there is a choice.
     pub fn choice(&self, v: Vertex) -> Option<Vertex>
         requires { v < length self.now }
         ensures { result ≡ choice self.now v }

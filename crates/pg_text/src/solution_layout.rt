@@ -14,7 +14,7 @@ use crate::writing::{ShortLine, add_number, write_number};
 use pg_arena::{Game, Player, Vertex};
 use std::io::{self, Write};
 
-/// The winner's number behind a space.
+/// Writes a space and the winner's number.
 #[inline(always)]
 fn write_winner<W: Write>(winner: Player, out: &mut W) -> io::Result<()>
     ensures { OnOk result (Appends (W.contents out.old) (W.contents out.new)
@@ -26,7 +26,7 @@ fn write_winner<W: Write>(winner: Player, out: &mut W) -> io::Result<()>
     }
 }
 
-/// Appends a choice. None where it doesn't fit.
+/// Appends a space and the identifier of the choice, if there is one. None if it doesn't fit.
 #[inline(always)]
 fn add_strategy(line: &mut ShortLine, game: &Game, choice: Option<Vertex>) -> Option<()>
     requires { (w : ℕ) → choice ≡ Some w → w < length game.now }
@@ -39,7 +39,7 @@ fn add_strategy(line: &mut ShortLine, game: &Game, choice: Option<Vertex>) -> Op
     Some(())
 }
 
-/// Appends the winner's number behind a space. None where it doesn't fit.
+/// Appends a space and the winner's number. None if it doesn't fit.
 #[inline(always)]
 fn add_winner(line: &mut ShortLine, winner: Player) -> Option<()>
     ensures { OnSome result (line.new.items ≡ line.old.items ++ (codes " " ++ decimal (player_number winner))) }
@@ -63,7 +63,7 @@ fn write_strategy<W: Write>(game: &Game, choice: Option<Vertex>, out: &mut W) ->
     Ok(())
 }
 
-/// The choice at `v`, where the winner owns it.
+/// Returns the choice at `v`, if the winner owns `v`.
 #[inline(always)]
 fn told_choice(game: &Game, solution: &Solution, v: Vertex) -> Option<Vertex>
     requires whole { length solution.now ≡ length game.now }
@@ -77,7 +77,7 @@ fn told_choice(game: &Game, solution: &Solution, v: Vertex) -> Option<Vertex>
     }
 }
 
-/// Appends the line of a vertex. None where it doesn't fit.
+/// Appends the line of a vertex. None if it doesn't fit.
 #[inline(always)]
 fn add_answer(line: &mut ShortLine, game: &Game, solution: &Solution, v: Vertex) -> Option<()>
     requires game { IsGame game.now }
@@ -91,7 +91,7 @@ fn add_answer(line: &mut ShortLine, game: &Game, solution: &Solution, v: Vertex)
     line.try_extend_from_slice(b";\n").ok()
 }
 
-/// The line of a vertex, at once where it is short.
+/// Writes the line of a vertex, at once if it is short.
 #[inline(always)]
 fn write_answer<W: Write>(
     game: &Game,

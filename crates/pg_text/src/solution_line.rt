@@ -9,8 +9,8 @@ use crate::reading::{semicolon, unexpected};
 use crate::tokens::{Token, TokenFault, scan};
 use pg_arena::Player;
 
-/// A line as it stands in the text: who wins at the vertex with this identifier, and the identifier of the vertex to
-/// which the winner goes, where a strategy stands.
+/// A line as it is in the text: who wins at the vertex with this identifier, and the identifier of the vertex to which
+/// the winner goes, if there is a strategy.
 #[derive(Clone, Copy)]
 pub(crate) struct SolutionLine {
     pub(crate) identifier: u32,
@@ -18,7 +18,7 @@ pub(crate) struct SolutionLine {
     pub(crate) strategy: Option<u32>,
 }
 
-/// The strategy, where one stands, and the semicolon.
+/// Reads the strategy, if there is one, and the semicolon.
 #[tactic(auto, unfolding(crate::specs::Mirrors::SolutionScan::strategy_at))]
 fn strategy(bytes: &[u8]) -> Result<(Option<u32>, &[u8]), TokenFault>
     ensures { Reads (λ x. (x.0, x.1.now)) result (strategy_at bytes.now) }
@@ -30,7 +30,7 @@ fn strategy(bytes: &[u8]) -> Result<(Option<u32>, &[u8]), TokenFault>
     }
 }
 
-/// A line, or nothing at the end of the text.
+/// Reads a line, or returns None at the end of the text.
 #[tactic(auto, unfolding(crate::specs::Mirrors::SolutionScan::next_answer_at, crate::specs::Mirrors::SolutionScan::answer_at))]
 pub(crate) fn next_answer(bytes: &[u8]) -> Result<(Option<SolutionLine>, &[u8]), TokenFault>
     ensures { Reads (λ x. (answer_seen x.0, x.1.now)) result (next_answer_at bytes.now) }

@@ -20,14 +20,15 @@ use std::alloc::Global;
 /// Why a line of a solution can't be taken.
 #[derive(Clone, Copy)]
 pub(crate) enum Misfit {
-    /// It names no vertex of the game, or a strategy that counts and is no successor.
+    /// It names no vertex of the game, or a strategy that counts and isn't a successor.
     NotOfGame,
-    /// A line before it names the same vertex.
+    /// An earlier line names the same vertex.
     Repeated,
 }
 
 impl Misfit {
-    /// The fault of a line with this identifier, which stands in front of `rest`, an end of the text.
+    /// Returns the fault of the line with this identifier, which is at the start of `rest`, the end of the text from
+    /// there on.
     fn of_line(self, identifier: u32, text: &[u8], rest: &[u8]) -> TextFault
         ensures { result ≡ misfit_fault self identifier (length text.now - length (after_space rest.now)) }
     {
@@ -46,7 +47,7 @@ pub(crate) fn is_owned(game: &Game, player: Player, v: Vertex) -> bool
     game.owner(v) == player
 }
 
-/// The successor of `v` with this identifier.
+/// Returns the successor of `v` with this identifier, if there is one.
 fn successor(game: &Game, v: Vertex, wanted: u32) -> Option<Vertex>
     requires game { IsGame game.now }
     requires within { v < length game.now }
@@ -60,7 +61,7 @@ fn successor(game: &Game, v: Vertex, wanted: u32) -> Option<Vertex>
     }
 }
 
-/// The choice at `v` that the line names.
+/// Returns the choice at `v` that the line names. None if the line's strategy counts and isn't a successor.
 fn choice_of(game: &Game, line: SolutionLine, v: Vertex) -> Option<Option<Vertex>>
     requires game { IsGame game.now }
     requires within { v < length game.now }
@@ -76,7 +77,7 @@ fn choice_of(game: &Game, line: SolutionLine, v: Vertex) -> Option<Option<Vertex
     }
 }
 
-/// Puts what the line says into the solution, and marks its vertex.
+/// Enters the line's answer into the solution, and marks its vertex.
 fn take_line(
     game: &Game,
     line: SolutionLine,
@@ -103,9 +104,9 @@ fn take_line(
     Ok(())
 }
 
-/// The identifier of the line that begins here, and why that line can't be taken, where its identifier, or its winner
-/// and its strategy, show it before the end of the line is read. An identifier counts once the token behind it can be
-/// read, a strategy at once.
+/// Returns the identifier of the line that begins here, and why that line can't be taken, if its identifier, or its
+/// winner and its strategy, show it before the end of the line is read. An identifier counts once the token after it
+/// can be read, a strategy at once.
 fn early_misfit(game: &Game, seen: &[bool], bytes: &[u8]) -> Option<(u32, Misfit)>
     requires game { IsGame game.now }
     requires marks { length seen.now ≡ length game.now }
@@ -145,7 +146,7 @@ fn is_answered(game: &Game, solution: &Solution, seen: &[bool], v: Vertex) -> bo
     seen[v.0 as usize] && (!is_owned(game, solution.winner(v), v) || solution.choice(v).is_some())
 }
 
-/// The first vertex without a line, or without a choice where its winner owns it.
+/// Returns the first vertex without a line, or without a choice although its winner owns it, if there is one.
 fn first_missing(game: &Game, solution: &Solution, seen: &[bool]) -> Option<Vertex>
     requires whole { length solution.now ≡ length game.now }
     requires marks { length seen.now ≡ length game.now }
@@ -163,7 +164,7 @@ fn first_missing(game: &Game, solution: &Solution, seen: &[bool]) -> Option<Vert
     None
 }
 
-/// What the lines of the text say, and a mark for each vertex that one of them names.
+/// Reads the lines of the text. Returns the solution that they give, and a mark for each vertex that one of them names.
 fn read_lines(alloc: Global, game: &Game, bytes: &[u8]) -> Result<(Solution, Vec<bool>), TextFault>
     requires { IsGame game.now }
     ensures read { IfOk result (λ x. HasRead bytes.now game.now x.0 x.1.items) }

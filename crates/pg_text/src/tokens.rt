@@ -77,7 +77,7 @@ fn plain(bytes: &[u8]) -> usize
     bytes.iter().take_while(|byte| **byte != b'"').count()
 }
 
-/// What the byte is above `0`: below ten exactly if it is a digit.
+/// Returns the byte minus `0`, modulo 256: below ten exactly if the byte is a digit.
 #[inline(always)]
 fn digit(byte: u8) -> u32
     ensures digit { result < 10 → (is_digit byte ≡ true) × (result ≡ byte - 48) }
@@ -86,7 +86,7 @@ fn digit(byte: u8) -> u32
     u32::from(byte.wrapping_sub(b'0'))
 }
 
-/// The number whose digits stand in front.
+/// Reads the number whose digits are at the start.
 #[tactic(auto, unfolding(crate::specs::Mirrors::Scan::number_at))]
 #[inline(always)]
 pub(crate) fn digits(bytes: &[u8]) -> Result<(u32, &[u8]), TokenFault>
@@ -109,7 +109,7 @@ pub(crate) fn digits(bytes: &[u8]) -> Result<(u32, &[u8]), TokenFault>
     }
 }
 
-/// The number in front, as a token.
+/// Reads the number at the start as a token.
 fn number_token(bytes: &[u8]) -> Result<(Token<'_>, &[u8]), TokenFault>
     ensures token { option_map (λ x. (lexeme x.0, x.1.now)) (result_ok result) ≡ number_at bytes.now }
     ensures fault { IfErr result (λ e. e ≡ TokenFault.NumberTooLarge (length bytes.now)) }
@@ -126,7 +126,7 @@ fn word(bytes: &[u8]) -> (Token<'_>, &[u8])
     (Token::Word(word), rest)
 }
 
-/// The string whose first quote stands in front of `bytes`.
+/// Reads the string whose first quote comes right before `bytes`. None if it has no second quote.
 #[tactic(auto, using(pg_list_lemmas::proofs::Runs::run_within), unfolding(crate::specs::Mirrors::Scan::quoted_at))]
 fn quoted(bytes: &[u8]) -> Option<(Token<'_>, &[u8])>
     ensures { option_map (λ x. (lexeme x.0, x.1.now)) result ≡ quoted_at bytes.now }
@@ -139,7 +139,7 @@ fn quoted(bytes: &[u8]) -> Option<(Token<'_>, &[u8])>
     }
 }
 
-/// The token at the very front.
+/// Reads the token at the very start.
 #[tactic(auto, unfolding(crate::specs::Mirrors::Scan::solid_at))]
 fn solid(bytes: &[u8]) -> Result<(Token<'_>, &[u8]), TokenFault>
     ensures token { option_map (λ x. (lexeme x.0, x.1.now)) (result_ok result) ≡ solid_at bytes.now }
@@ -165,7 +165,7 @@ fn solid(bytes: &[u8]) -> Result<(Token<'_>, &[u8]), TokenFault>
     }
 }
 
-/// Behind the white space in front.
+/// Returns the bytes after the white space at the start.
 #[tactic(auto, using(pg_list_lemmas::proofs::Runs::run_within))]
 #[inline(always)]
 pub(crate) fn after_space(bytes: &[u8]) -> &[u8]
@@ -177,7 +177,7 @@ pub(crate) fn after_space(bytes: &[u8]) -> &[u8]
     }
 }
 
-/// One byte of white space, where some stands in front.
+/// Returns 1 if a byte of white space is at the start, and otherwise 0.
 #[inline(always)]
 fn blank(bytes: &[u8]) -> usize
     ensures within { result ≤ length bytes.now }
@@ -189,9 +189,9 @@ fn blank(bytes: &[u8]) -> usize
     }
 }
 
-/// The number in front and how many bytes it takes, where it has at most seven digits, at most one byte of white space
-/// stands in front of it, and at least eight bytes behind that: so most numbers stand that programs print. Elsewhere it
-/// takes no byte.
+/// Returns the number at the start and how many bytes it takes, if it has at most seven digits, at most one byte of
+/// white space is before it, and at least eight bytes are after this white space: most numbers that programs print are
+/// like this. Otherwise it takes no byte.
 #[inline(always)]
 pub(crate) fn short_number(bytes: &[u8]) -> (u32, usize)
     ensures within { result.1 ≤ length bytes.now }
@@ -216,7 +216,7 @@ pub(crate) fn short_number(bytes: &[u8]) -> (u32, usize)
     (0, 0)
 }
 
-/// What stands after this byte, if it is the first one.
+/// Returns the bytes after this byte, if it is the first one.
 #[inline(always)]
 pub(crate) fn after_first(byte: u8, bytes: &[u8]) -> Option<&[u8]>
     ensures { IfSome result (λ rest. bytes.now ≡ byte ∷ rest.now) }
@@ -227,7 +227,7 @@ pub(crate) fn after_first(byte: u8, bytes: &[u8]) -> Option<&[u8]>
     }
 }
 
-/// What stands after this byte, if it is the first one behind white space.
+/// Returns the bytes after this byte, if it is the first one after white space.
 #[inline(always)]
 pub(crate) fn after_byte(byte: u8, bytes: &[u8]) -> Option<&[u8]>
     ensures some { IfSome result (λ rest. after_space bytes.now ≡ byte ∷ rest.now) }
@@ -239,7 +239,8 @@ pub(crate) fn after_byte(byte: u8, bytes: &[u8]) -> Option<&[u8]>
     }
 }
 
-/// The token in front, behind white space, and the bytes after it: `next_token` for the readers of this crate.
+/// Reads the next token, after white space, and returns it with the bytes after it: `next_token` for the readers of
+/// this crate.
 #[tactic(auto, unfolding(crate::specs::Mirrors::Scan::token_at, crate::specs::Mirrors::Scan::lexeme_at))]
 pub(crate) fn scan(bytes: &[u8]) -> Result<(Token<'_>, &[u8]), TokenFault>
     ensures { Reads (λ x. (lexeme x.0, x.1.now)) result (token_at bytes.now) }
@@ -262,8 +263,8 @@ pub fn next_token(bytes: &[u8]) -> Result<(Token<'_>, &[u8]), TokenFault>
     scan(bytes)
 }
 
-/// The number of bytes from the next token to the end of the text, which is the length of the text minus the token's
-/// offset.
+/// Returns the number of bytes from the next token to the end of the text, which is the length of the text minus the
+/// token's offset.
 pub fn left_at(bytes: &[u8]) -> usize
     ensures { result ≡ length (after_space bytes.now) }
 {

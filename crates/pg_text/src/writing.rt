@@ -12,7 +12,7 @@ use itoa::Buffer;
 use pg_arena::{Game, Vertex};
 use std::io::{self, Write};
 
-/// 32 zeros, each behind a comma.
+/// 32 zeros, each after a comma.
 const ZEROS: &[u8] = b",0,0,0,0,0,0,0,0,0,0,0,0,0,0,0,0,0,0,0,0,0,0,0,0,0,0,0,0,0,0,0,0";
 
 /// A short line that is put together before it is written, since a write costs more than the bytes in it.
@@ -40,7 +40,7 @@ pub fn write_number<W: Write>(number: u32, out: &mut W) -> io::Result<()>
     out.write_all(buffer.format(number).as_bytes())
 }
 
-/// A number of one digit behind a comma.
+/// Writes a comma and a number of one digit.
 fn write_comma_digit<W: Write>(digit: u8, out: &mut W) -> io::Result<()>
     requires { digit < 10 }
     ensures { OnOk result (Appends (W.contents out.old) (W.contents out.new) (comma_number digit)) }
@@ -48,7 +48,8 @@ fn write_comma_digit<W: Write>(digit: u8, out: &mut W) -> io::Result<()>
     out.write_all(&[b',', b'0' + digit])
 }
 
-/// A number behind a comma. Most components of measures are small, so those of one digit are written at once.
+/// Writes a comma and a number. Most components of measures are small, so a number of one digit and its comma are
+/// written at once.
 fn write_comma_number<W: Write>(number: u32, out: &mut W) -> io::Result<()>
     ensures { OnOk result (Appends (W.contents out.old) (W.contents out.new) (comma_number number)) }
 {
@@ -59,7 +60,7 @@ fn write_comma_number<W: Write>(number: u32, out: &mut W) -> io::Result<()>
     write_number(number, out)
 }
 
-/// How many zeros stand in front, up to as many as one write takes.
+/// Returns the number of zeros at the start, up to as many as one write takes.
 fn zeros(numbers: &[u32]) -> usize
     ensures most { result ≤ 32 }
     ensures within { result ≤ length numbers.now }
@@ -72,7 +73,7 @@ fn zeros(numbers: &[u32]) -> usize
         .count()
 }
 
-/// That many zeros, each behind a comma.
+/// Writes `count` zeros, each after a comma.
 fn write_comma_zeros<W: Write>(count: usize, out: &mut W) -> io::Result<()>
     requires { count ≤ 32 }
     ensures { OnOk result (Appends (W.contents out.old) (W.contents out.new)
@@ -81,7 +82,7 @@ fn write_comma_zeros<W: Write>(count: usize, out: &mut W) -> io::Result<()>
     out.write_all(&ZEROS[..2 * count])
 }
 
-/// Numbers, each behind a comma. Most components of measures are zeros, so zeros in a row are written at once.
+/// Writes numbers, each after a comma. Most components of measures are zeros, so zeros in a row are written at once.
 fn write_comma_numbers<W: Write>(numbers: &[u32], out: &mut W) -> io::Result<()>
     ensures { OnOk result (Appends (W.contents out.old) (W.contents out.new) (flat_map comma_number numbers.now)) }
 {

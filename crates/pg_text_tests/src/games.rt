@@ -1,4 +1,4 @@
-//! A game is read back as its lines say, and so is its dual; a builder that refused goes on; texts of faults.
+//! A game and its dual are compared with the lines of the game; a builder that refused a line goes on; the texts of faults.
 
 ghost use Rattle.std.specs.Prelude.{IfOk};
 ghost use Rattle.pg_arena.specs.Games.{HasPrioritiesUpTo};
@@ -7,7 +7,7 @@ use pg_arena::{ArenaFault, Game, GameBuilder, Player, Vertex, dual};
 use std::alloc::Global;
 use std::test::Fail;
 
-/// Two lines whose identifiers don't rise; one repeats a successor. A line between them is refused.
+/// Builds a game of two lines whose identifiers don't rise; one repeats a successor. A line between them is refused.
 fn built(alloc: Global) -> Result<Game, ArenaFault>
     ensures { IfOk result (HasPrioritiesUpTo 65535) }
 {
@@ -29,7 +29,7 @@ fn has_line(game: &Game, v: u32, identifier: u32, priority: u32, owner: Player) 
         && game.owner(Vertex(v)) == owner
 }
 
-/// Whether the second vertex leads to both, and the first one alone has a name.
+/// Whether the second vertex leads to both vertices, and only the first one has a name.
 fn has_edges_and_a_name(game: &Game) -> bool {
     game.len() == 2
         && game.successors(Vertex(1)) == [Vertex(0), Vertex(1)].as_slice()

@@ -1,21 +1,21 @@
-//! Texts of a game and of a solution are read and printed, to writers that take them, and to others.
+//! Reads texts of a game and of a solution, and prints them to writers that take them and to others that fail.
 
 use pg_arena::{Player, Vertex};
 use pg_text::{TextFault, read_game, read_solution, write_game, write_solution};
 use std::io;
 use std::test::Fail;
 
-/// A game as nobody prints it, and as it is printed.
+/// A game in an unusual spelling, and as it is printed.
 const GAME: &[u8] = b"4000000000 2 0 7;\n7 1 1 4000000000,7,7\"x y\";";
 
 const GAME_PRINTED: &[u8] = b"parity 4000000000;\n7 1 1 7,4000000000 \"x y\";\n4000000000 2 0 7;\n";
 
-/// The same of its solution: Odd keeps the play at 7.
+/// The solution of the game in an unusual spelling, and as it is printed: Odd keeps the play at 7.
 const SOLUTION: &[u8] = b"paritysol 9;4000000000 1;007 1 7;";
 
 const SOLUTION_PRINTED: &[u8] = b"paritysol 4000000000;\n7 1 7;\n4000000000 1;\n";
 
-/// A writer that takes so many bytes and then fails.
+/// A writer that takes `room` bytes and then fails.
 #[derive(Drop)]
 struct Full {
     room: usize,

@@ -13,14 +13,14 @@ pub struct Edge {
 }
 
 impl Edge {
-    /// Where no edge is.
+    /// Stands for no edge.
     pub const NONE: Edge = Edge {
         target: NONE,
         mark: 0,
     };
 }
 
-/// The class of each letter. Letters of a class lead to the same from each state.
+/// The class of each letter. Letters of one class have the same edge from each state.
 #[derive(Drop)]
 pub struct Classes {
     of: Vec<u32>,
@@ -28,7 +28,7 @@ pub struct Classes {
 }
 
 impl Classes {
-    /// All letters over so many propositions in one class.
+    /// Puts all letters over the given number of propositions into one class.
     pub fn new(alloc: Global, propositions: u32) -> Found<Classes> {
         Ok(Classes {
             of: vec![in alloc; 0; power(propositions) as usize]?,
@@ -51,7 +51,7 @@ impl Classes {
         })
     }
 
-    /// The least letter of each class.
+    /// Returns the least letter of each class.
     pub fn examples(&self, alloc: Global) -> Found<Vec<u32>> {
         let mut examples = vec![in alloc; 0; self.many as usize]?;
         for letter in (0..self.letters()).rev() {
@@ -60,7 +60,7 @@ impl Classes {
         Ok(examples)
     }
 
-    /// Parts the classes by the edges of a state, which are given letter by letter over the propositions of a mask.
+    /// Splits the classes by the edges of a state, which are given letter by letter over the propositions of a mask.
     pub fn refine(&mut self, alloc: Global, edges: &[Edge], mask: u32) -> Found<()> {
         let mut numbers = Lists::new(alloc);
         let (mut last, mut last_number) = ([NONE, NONE, NONE], 0);
@@ -77,7 +77,7 @@ impl Classes {
         Ok(())
     }
 
-    /// Gives each class another number.
+    /// Gives each class its number in `numbers`; `many` classes are left.
     pub fn renumber(&mut self, numbers: &[u32], many: u32) {
         for class in self.of.iter_mut() {
             *class = at(numbers, *class);
@@ -86,19 +86,19 @@ impl Classes {
     }
 }
 
-/// An automaton with priorities as marks: a word is accepted if the greatest that recurs is even. It begins in state 0.
+/// An automaton with priorities as marks: it accepts a word if the greatest priority that recurs is even. It begins in state 0.
 #[derive(Drop)]
 pub struct Automaton {
     pub alloc: Global,
     pub classes: Classes,
-    /// State by state the edge of each class.
+    /// The edge of each class, state by state.
     pub edges: Vec<Edge>,
-    /// States with one key are known to accept the same words.
+    /// The key of each state. States with the same key are known to accept the same words.
     pub keys: Vec<u32>,
 }
 
 impl Automaton {
-    /// The automaton whose edges are given state by state and letter by letter.
+    /// Returns the automaton whose edges are given state by state and letter by letter.
     pub fn of_letters(
         alloc: Global,
         propositions: u32,
@@ -130,7 +130,7 @@ impl Automaton {
         count(self.edges.len()) / self.classes.many.max(1)
     }
 
-    /// The edges of a state, by classes.
+    /// Returns the edges of a state, by class.
     pub fn row(&self, state: u32) -> &[Edge] {
         let from = state.saturating_mul(self.classes.many);
         between(&self.edges, from, from.saturating_add(self.classes.many))
@@ -140,7 +140,7 @@ impl Automaton {
         item(self.row(state), self.classes.of(letter), Edge::NONE)
     }
 
-    /// The edges of a state, once each, rising.
+    /// Returns the different edges of a state, in ascending order.
     pub fn distinct(&self, state: u32) -> Found<Vec<Edge>> {
         let mut edges = Vec::from_slice(self.alloc, self.row(state))?;
         edges.sort_unstable();
@@ -156,13 +156,13 @@ impl Automaton {
         greatest
     }
 
-    /// Whether a state leads only to itself, and accepts or rejects.
+    /// Whether a state leads only to itself and accepts or, if `accepts` is false, rejects.
     pub fn is_sink(&self, state: u32, accepts: bool) -> bool {
         let mut row = self.row(state).iter();
         row.all(|edge| edge.target == state && (edge.mark % 2 == 0) == accepts)
     }
 
-    /// The automaton of what is reached when each state is replaced by another one, numbered as it is met.
+    /// Returns the automaton of the states that are reached when `by` replaces each state, numbered in the order in which they are met.
     pub fn replaced(&self, by: &[u32]) -> Found<Automaton> {
         let mut numbers = vec![in self.alloc; NONE; self.len() as usize]?;
         let mut order = vec![in self.alloc; at(by, 0); 1]?;

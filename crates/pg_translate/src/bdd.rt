@@ -10,7 +10,7 @@ pub const NEVER: u32 = 0;
 
 pub const ALWAYS: u32 = 1;
 
-/// A choice by a variable between the diagrams where it is false and where it is true.
+/// A choice by a variable: `low` is the diagram where it is false, and `high` the diagram where it is true.
 #[derive(Clone, Copy, PartialEq, Eq, Hash)]
 struct Branch {
     variable: u32,
@@ -26,27 +26,27 @@ struct Choice {
     other: u32,
 }
 
-/// What is to be done on the way to a choice.
+/// A task on the way to the diagram of a choice.
 #[derive(Clone, Copy)]
 enum Task {
     Look(Choice),
-    /// To join the last two diagrams by this variable.
+    /// Joins the last two diagrams by this variable.
     Join(u32, Choice),
 }
 
-/// Diagrams. A branch leads to smaller numbers; the last ones have no variable.
+/// Diagrams. A branch leads to smaller numbers; the constants have no variable.
 #[derive(Drop)]
 pub struct Bdd {
     alloc: Global,
     branches: IndexSet<Branch>,
-    /// Choices that were made, and their diagrams.
+    /// The choices that were made; `made` has the diagram of each.
     choices: IndexSet<Choice>,
     made: Vec<u32>,
     steps: u64,
 }
 
 impl Bdd {
-    /// So many steps may be made.
+    /// Returns the diagrams false and true, with a budget of `steps` steps.
     pub fn new(alloc: Global, steps: u64) -> Found<Bdd> {
         let mut bdd = Bdd {
             alloc,
@@ -76,12 +76,12 @@ impl Bdd {
         }
     }
 
-    /// The variable of the first choice of a diagram.
+    /// Returns the variable of the first choice of a diagram, or `NONE` for a constant.
     pub fn top(&self, f: u32) -> u32 {
         self.branch(f).variable
     }
 
-    /// The diagram where a variable is false, and where it is true.
+    /// Returns the halves of a diagram where a variable is false, and where it is true. The variable isn't after the diagram's first one.
     fn cut(&self, f: u32, variable: u32) -> (u32, u32) {
         let branch = self.branch(f);
         if branch.variable == variable {
@@ -107,7 +107,7 @@ impl Bdd {
         self.join(variable, NEVER, ALWAYS)
     }
 
-    /// The diagram of a choice, if that is clear.
+    /// Returns the diagram of a choice, if it is obvious or known.
     fn known(&self, choice: Choice) -> Option<u32> {
         match (choice.test, choice.then, choice.other) {
             (ALWAYS, then, _) => Some(then),
@@ -121,7 +121,7 @@ impl Bdd {
         }
     }
 
-    /// The diagram of `test` and `then`, or not `test` and `other`.
+    /// Returns the diagram of `test` and `then`, or not `test` and `other`.
     pub fn choose(&mut self, test: u32, then: u32, other: u32) -> Found<u32> {
         let mut tasks = Vec::new(self.alloc);
         let mut done = Vec::new(self.alloc);
@@ -150,7 +150,7 @@ impl Bdd {
 }
 
 impl Bdd {
-    /// Parts a choice by its least variable.
+    /// Splits a choice by its least variable, and pushes the tasks that this gives. Takes one step.
     fn part(&mut self, choice: Choice, tasks: &mut Vec<Task>) -> Found<()> {
         spend(&mut self.steps, 1)?;
         let Choice { test, then, other } = choice;
@@ -186,14 +186,14 @@ impl Bdd {
         self.choose(f, NEVER, ALWAYS)
     }
 
-    /// Where the first variable of a diagram is false, and where it is true.
+    /// Returns the halves of a diagram where its first variable is false, and where it is true.
     pub fn halves(&self, f: u32) -> (u32, u32) {
         let branch = self.branch(f);
         (branch.low, branch.high)
     }
 
-    /// The diagrams with a variable below `end` that one comes to from a diagram, those behind ones that are noted left out; smaller
-    /// numbers first.
+    /// Returns the diagrams with a variable below `end` that are reached from a diagram, smaller numbers first. Noted diagrams, and those
+    /// that are reached only through them, are left out.
     fn below(&mut self, f: u32, end: u32, noted: &Notes) -> Found<Vec<u32>> {
         let mut met = IndexSet::new(self.alloc);
         let _ = met.insert_full(f)?;
@@ -214,7 +214,7 @@ impl Bdd {
         Ok(found)
     }
 
-    /// The variables of a diagram that are below `end`, rising.
+    /// Returns the variables of a diagram that are below `end`, in ascending order.
     pub fn support(&mut self, f: u32, end: u32) -> Found<Vec<u32>> {
         let mut support = Vec::new(self.alloc);
         for g in &self.below(f, end, &Notes::new(self.alloc))? {
@@ -225,7 +225,7 @@ impl Bdd {
         Ok(support)
     }
 
-    /// Each variable replaced by the diagram that is noted for it, if there is one. Notes what was replaced.
+    /// Returns a diagram with each variable replaced by the diagram that `by` has for it, if there is one. Notes the results in `noted`.
     pub fn replaced(&mut self, f: u32, by: &Notes, noted: &mut Notes) -> Found<u32> {
         for g in &self.below(f, NONE, noted)? {
             let variable = self.top(*g);
@@ -242,12 +242,12 @@ impl Bdd {
         Ok(self.noted_or_same(f, noted))
     }
 
-    /// What is noted for a diagram, where constants stand for themselves.
+    /// Returns the note for a diagram; a constant stands for itself.
     fn noted_or_same(&self, f: u32, noted: &Notes) -> u32 {
         if self.top(f) == NONE { f } else { noted.get(f) }
     }
 
-    /// What is left of a diagram if the variables below `end` are as the bits of a letter say.
+    /// Returns what is left of a diagram when the variables below `end` have the values of the bits of a letter.
     pub fn walk(&self, f: u32, end: u32, letter: u32) -> u32 {
         let mut f = f;
         for _ in 0..end {

@@ -13,13 +13,13 @@ use crate::progress::Progress;
 #[derive(Drop)]
 struct Breakpoints {
     progress: Progress,
-    /// Of `G F f` nothing but `F f` is waited for, again and again: its diagram, or `NONE`.
+    /// For `G F f`, the diagram of `F f`, the only formula that is waited for, again and again; else `NONE`.
     again: u32,
     /// What is asked and what is waited for in each state.
     states: Lists,
 }
 
-/// The formula that is waited for again and again.
+/// Returns the formula that is waited for again and again: `F f` of `G F f`.
 fn recurring(pool: &Pool, f: u32) -> Option<u32> {
     match (pool.operator(f), pool.operands(f)) {
         (Operator::Release, [FALSE, g]) if pool.operator(*g) == Operator::Until => {
@@ -31,7 +31,7 @@ fn recurring(pool: &Pool, f: u32) -> Option<u32> {
 }
 
 impl Breakpoints {
-    /// What is to be waited for, where nothing is.
+    /// Returns what is waited for next, once nothing is left to wait for.
     fn waits(&mut self, pool: &mut Pool, asked: u32) -> Found<u32> {
         if self.again != NONE {
             return Ok(self.again);
@@ -39,7 +39,7 @@ impl Breakpoints {
         self.progress.waits(pool, asked)
     }
 
-    /// The edge to what is asked and waited for.
+    /// Returns the edge to the state of what is asked and waited for.
     fn edge(&mut self, pool: &mut Pool, asked: u32, waited: u32) -> Found<Edge> {
         let (state, mark) = match (asked, waited) {
             (NEVER, _) => ([NEVER, NEVER], 1),
@@ -52,7 +52,7 @@ impl Breakpoints {
     }
 }
 
-/// The automaton of a formula in Pi 2, over so many propositions in all.
+/// Returns the automaton of a formula in Pi 2; `propositions` is the number of all propositions.
 pub fn by_breakpoints(pool: &mut Pool, f: u32, propositions: u32) -> Found<Leaf> {
     let mask = pool.facts(f).propositions;
     let mut progress = Progress::new(pool.alloc, propositions, false)?;

@@ -17,7 +17,7 @@ struct Arc {
     accepts: bool,
 }
 
-/// Lists of edges: for each state and letter one.
+/// Lists of edges, one for each state and letter.
 #[derive(Drop)]
 struct Arcs {
     arcs: Vec<Arc>,
@@ -31,7 +31,7 @@ impl Arcs {
         count(self.ends.len()) / self.letters.max(1)
     }
 
-    /// The edges of a state and a letter.
+    /// Returns the edges of a state at a letter.
     fn of(&self, state: u32, letter: u32) -> &[Arc] {
         let place = state.saturating_mul(self.letters).saturating_add(letter);
         let begin = if place == 0 {
@@ -42,7 +42,7 @@ impl Arcs {
         between(&self.arcs, begin, item(&self.ends, place, 0))
     }
 
-    /// All edges of a state.
+    /// Returns all edges of a state.
     fn of_state(&self, state: u32) -> &[Arc] {
         let place = state.saturating_mul(self.letters);
         let begin = if place == 0 {
@@ -59,14 +59,14 @@ impl Arcs {
 #[derive(Drop)]
 pub struct Buchi {
     pub letters: u32,
-    /// How many words of 32 bits hold a set of states.
+    /// How many 32-bit words hold a set of states.
     pub words: u32,
-    /// For each state and letter all targets, and then those of edges that accept.
+    /// For each state and letter, the set of all targets, and then the set of the targets of edges that accept.
     images: Vec<u32>,
 }
 
 impl Buchi {
-    /// The targets of a state at a letter: all, or those of edges that accept.
+    /// Returns the targets of a state at a letter: all, or only those of edges that accept.
     pub fn image(&self, state: u32, letter: u32, accepting: bool) -> &[u32] {
         let place = state.saturating_mul(self.letters).saturating_add(letter);
         let place = place.saturating_mul(2).saturating_add(accepting as u32);
@@ -75,7 +75,7 @@ impl Buchi {
     }
 }
 
-/// The sets of a tableau, and for each set and letter its choices; these are sets of the next step by their numbers, and Untils put off.
+/// The sets of a tableau: for each set and letter its choices, which are the number of the next set and the Untils that are put off.
 #[derive(Drop)]
 struct Sets {
     letters: u32,
@@ -83,7 +83,7 @@ struct Sets {
     ends: Vec<u32>,
 }
 
-/// The sets that are reached in the tableau of a formula, and their choices.
+/// Returns the sets that are reached in the tableau of a formula over the propositions of a mask, and their choices.
 fn sets_of(pool: &Pool, f: u32, mask: u32) -> Found<Sets> {
     let mut tableau = Tableau::new(pool);
     let mut sets = IndexSet::new(pool.alloc);
@@ -115,7 +115,7 @@ fn sets_of(pool: &Pool, f: u32, mask: u32) -> Found<Sets> {
 }
 
 impl Sets {
-    /// The choices of a set at a letter.
+    /// Returns the choices of a set at a letter.
     fn of(&self, set: u32, letter: u32) -> &[Choice] {
         let place = set.saturating_mul(self.letters).saturating_add(letter);
         let begin = if place == 0 {
@@ -126,7 +126,7 @@ impl Sets {
         between(&self.choices, begin, item(&self.ends, place, 0))
     }
 
-    /// The Untils that are put off by some choice.
+    /// Returns the Untils that are put off by some choice.
     fn puts(&self) -> u64 {
         let mut puts = 0;
         for choice in &self.choices {
@@ -136,7 +136,7 @@ impl Sets {
     }
 }
 
-/// The level of a counter that goes on over the Untils that aren't put off; 64 behind the last one.
+/// Returns the next level of a counter, which passes the Untils that aren't put off; 64 after the last one.
 fn next_level(level: u32, all: u64, puts: u64) -> u32 {
     let mut next = level;
     for _ in 0..64 {
@@ -148,7 +148,7 @@ fn next_level(level: u32, all: u64, puts: u64) -> u32 {
     next
 }
 
-/// States that are sets with a level of the counter, and their edges: one accepts where the counter comes to its end.
+/// Returns the edges of states that are sets with a level of the counter. An edge accepts if the counter comes to its end on it.
 fn counted(alloc: Global, sets: &Sets) -> Found<Arcs> {
     let all = sets.puts();
     let mut states = Lists::new(alloc);
@@ -179,7 +179,7 @@ fn counted(alloc: Global, sets: &Sets) -> Found<Arcs> {
     Ok(found)
 }
 
-/// The states from which a word is accepted.
+/// Returns for each state whether a word is accepted from it.
 fn live(alloc: Global, arcs: &Arcs) -> Found<Vec<bool>> {
     let mut rows = Rows::with_capacity(alloc, arcs.states() as usize)?;
     for state in 0..arcs.states() {
@@ -206,7 +206,7 @@ fn live(alloc: Global, arcs: &Arcs) -> Found<Vec<bool>> {
     Ok(live)
 }
 
-/// The automaton of a formula over the propositions of a mask. States from which nothing is accepted are left out.
+/// Returns the automaton of a formula over the propositions of a mask. Edges to states from which nothing is accepted are left out.
 pub fn buchi_of(pool: &Pool, f: u32, mask: u32) -> Found<Buchi> {
     let arcs = counted(pool.alloc, &sets_of(pool, f, mask)?)?;
     let live = live(pool.alloc, &arcs)?;
@@ -239,7 +239,7 @@ pub fn buchi_of(pool: &Pool, f: u32, mask: u32) -> Found<Buchi> {
     })
 }
 
-/// Puts a number into the set that begins at a place.
+/// Adds a number to the set that begins at a place.
 fn add_bit(words: &mut [u32], from: u32, number: u32) {
     let place = from.saturating_add(number / 32);
     let word = item(words, place, 0) | power(number % 32);

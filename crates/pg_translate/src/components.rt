@@ -5,7 +5,7 @@ use crate::numbers::{NONE, at, put};
 use pg_search_components::{Components, Rows};
 use std::alloc::Global;
 
-/// The number of the component of each vertex, greater than those of the components that it leads to.
+/// The number of the component of each vertex. It is greater than the numbers of the components that this one leads to.
 #[derive(Drop)]
 pub struct Ranks {
     of: Vec<u32>,
@@ -13,7 +13,7 @@ pub struct Ranks {
 }
 
 impl Ranks {
-    /// The components of so many vertices.
+    /// Finds the components of the vertices below `vertices`.
     pub fn new(alloc: Global, rows: &Rows, vertices: u32) -> Found<Ranks> {
         let mut all = Vec::with_capacity(alloc, vertices as usize)?;
         for v in 0..vertices {
@@ -37,7 +37,7 @@ impl Ranks {
         at(&self.of, v)
     }
 
-    /// The vertices by the numbers of their components, rising.
+    /// Returns the vertices in ascending order of the numbers of their components.
     pub fn order(&self, alloc: Global) -> Found<Vec<u32>> {
         let mut pairs = Vec::new(alloc);
         let mut v = 0u32;

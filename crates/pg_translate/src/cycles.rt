@@ -1,4 +1,4 @@
-//! What holds on a cycle for ever.
+//! The formulas that hold on a cycle that goes on for ever.
 
 use crate::automaton::Edge;
 use crate::components::Ranks;
@@ -8,7 +8,7 @@ use crate::pool::{Operator, Pool, Reach};
 use crate::product::Product;
 use std::alloc::Global;
 
-/// The classes of letters on a shortest cycle from a state back to it, inside its component.
+/// Returns the classes of letters on a shortest cycle from a state back to it inside its component, or none if there is no cycle.
 pub fn cycle(alloc: Global, product: &Product, ranks: &Ranks, start: u32) -> Found<Vec<u32>> {
     let mut befores = Notes::new(alloc);
     let mut classes = Notes::new(alloc);
@@ -32,7 +32,7 @@ pub fn cycle(alloc: Global, product: &Product, ranks: &Ranks, start: u32) -> Fou
     Ok(Vec::new(alloc))
 }
 
-/// The classes on the way to a state from itself.
+/// Returns the classes on the way from a state back to itself.
 fn way_back(
     alloc: Global,
     befores: &Notes,
@@ -53,7 +53,7 @@ fn way_back(
     Ok(way)
 }
 
-/// Whether a formula holds of the word that goes round by these letters for ever.
+/// Whether a formula holds of the word that repeats these letters for ever.
 pub fn holds_on(pool: &Pool, f: u32, letters: &[u32]) -> Found<bool> {
     let parts = pool.parts(f, Reach::All)?;
     let mut places = Notes::new(pool.alloc);
@@ -69,7 +69,7 @@ pub fn holds_on(pool: &Pool, f: u32, letters: &[u32]) -> Found<bool> {
     }
 }
 
-/// The values of a formula at each letter, from those of its operands.
+/// Returns the values of a formula at each letter, from those of its operands.
 fn values_of(
     pool: &Pool,
     f: u32,

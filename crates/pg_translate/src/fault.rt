@@ -6,16 +6,17 @@ use thiserror::Error;
 /// Why no automaton is proposed.
 #[derive(Clone, Copy, Debug, PartialEq, Eq, Error)]
 pub enum TranslateFault {
-    /// A growth was refused.
+    /// Memory ran out.
     #[error("out of memory")]
     OutOfMemory,
-    /// There are more than 16 propositions; or the automaton has more than 65,535 states or 16,777,216 states times letters, or one on the
-    /// way to it more than these; or some temporal formula asks for more than 64 formulas at once; or there are more than 32 priorities in
-    /// all that aren't the least of theirs, or more than 131,072 nodes of a Zielonka tree.
+    /// There are more than 16 propositions; or the automaton has more than 65,535 states or more than 16,777,216 states times letters; or
+    /// an automaton on the way to it has more than 16,777,216 edges or, for a Buchi automaton, 32-bit words of sets of targets; or the
+    /// tableau of a temporal formula asks for more than 64 formulas; or the automata of the temporal formulas have more than 32 priorities
+    /// in all, not counting the least of each; or a Zielonka tree has more than 131,072 nodes.
     #[error("automaton of the formula too large")]
     TooManyStates,
-    /// More than 16,777,216 steps with decision diagrams, 134,217,728 with Safra's trees, 4,194,304 with sets of priorities, or 268,435,456
-    /// edges to look at before states are merged.
+    /// The search takes 16,777,216 steps or more with decision diagrams, 134,217,728 with Safra's trees or 4,194,304 with sets of
+    /// priorities, or looks at 268,435,456 edges or more to merge states.
     #[error("translating the formula takes too many steps")]
     TooManySteps,
 }
@@ -32,5 +33,5 @@ impl<T: Drop> From<AllocFailed<T>> for TranslateFault {
     }
 }
 
-/// What is found, if memory and steps last.
+/// A result, or why there is none.
 pub type Found<T> = Result<T, TranslateFault>;

@@ -1,4 +1,4 @@
-//! Automata of temporal formulas, each over the propositions of its own.
+//! Automata of temporal formulas, each over the propositions of its own formula.
 
 use crate::automaton::{Automaton, Edge};
 use crate::bdd::{ALWAYS, NEVER};
@@ -12,9 +12,9 @@ pub struct Leaf {
     /// The propositions of the formula, as bits.
     pub propositions: u32,
     automaton: Automaton,
-    /// For each state the diagram of what it accepts, if that is all or nothing; else `NONE`.
+    /// For each state, the diagram of what it accepts if it is a sink: all or nothing; else `NONE`.
     pub decided: Vec<u32>,
-    /// The priorities, rising. Each but the least is a colour of the product of all leaves.
+    /// The priorities, in ascending order. Each except the least is a colour in the product of all leaves.
     priorities: Vec<u32>,
     /// The first of these colours.
     first_colour: u32,
@@ -48,12 +48,12 @@ impl Leaf {
         })
     }
 
-    /// A number that states have in common which accept the same words.
+    /// Returns the key of a state: states with the same key accept the same words.
     pub fn key(&self, state: u32) -> u32 {
         at(&self.automaton.keys, state)
     }
 
-    /// Gives the leaf its colours, from one on; answers the first one that is left.
+    /// Gives the leaf its colours, from `first` on. Returns the first colour that is still free.
     pub fn colour(&mut self, first: u32) -> u32 {
         self.first_colour = first;
         first
@@ -61,13 +61,13 @@ impl Leaf {
             .saturating_sub(1)
     }
 
-    /// The edge of a state at a letter over all propositions.
+    /// Returns the edge of a state at a letter over all propositions.
     pub fn step(&self, state: u32, letter: u32) -> Edge {
         self.automaton
             .step(state, gathered(letter, self.propositions))
     }
 
-    /// The colours of the leaf, as bits.
+    /// Returns the colours of the leaf, as bits.
     pub fn colours(&self) -> u32 {
         let many = count(self.priorities.len()).saturating_sub(1);
         let all = if many >= 32 {
@@ -78,7 +78,7 @@ impl Leaf {
         all.wrapping_shl(self.first_colour)
     }
 
-    /// The colour of a priority, as a bit; none for the least priority.
+    /// Returns the colour of a priority as a bit, or 0 for the least priority.
     pub fn colour_of(&self, priority: u32) -> u32 {
         match self.priorities.binary_search(&priority) {
             Ok(rank) if rank > 0 => {
@@ -91,7 +91,7 @@ impl Leaf {
         }
     }
 
-    /// Whether a run is accepted on which these colours recur.
+    /// Whether a run is accepted if these are the colours that recur on it.
     pub fn accepts(&self, colours: u32) -> bool {
         let own = (colours & self.colours()).wrapping_shr(self.first_colour);
         let rank = 32u32.saturating_sub(own.leading_zeros());

@@ -1,5 +1,5 @@
-//! Deterministic parity automata for formulas of linear temporal logic. Nothing is promised of what is proposed but that it is found
-//! safely and in the end: who wants to believe that an automaton means a formula looks at both.
+//! Deterministic parity automata for formulas of linear temporal logic. Nothing is promised about a proposal except that the search is safe
+//! and ends. To be sure that an automaton means a formula, look at both.
 #![tactic(auto)]
 
 mod automaton;

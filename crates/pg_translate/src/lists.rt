@@ -1,20 +1,20 @@
-//! Numbers for lists: equal ones have one number.
+//! Numbers for lists: equal lists have the same number.
 
 use crate::fault::Found;
 use crate::numbers::{at, between, count, put};
 use std::alloc::Global;
 
-/// Lists, numbered from 0 on in the order in which they came.
+/// Lists, numbered from 0 on in the order in which they were added.
 #[derive(Drop)]
 pub struct Lists {
     items: Vec<u32>,
     /// Where each list ends.
     ends: Vec<u32>,
-    /// By the remainders of their sums: the lists' numbers, counted from 1, and 0 where a slot is free.
+    /// A hash table by the remainders of the lists' sums: the numbers of the lists, counted from 1, and 0 in a free slot.
     slots: Vec<u32>,
 }
 
-/// A number of 64 bits that depends on each item.
+/// Returns a 64-bit number that depends on each item.
 fn sum_of(list: &[u32]) -> u64 {
     let mut sum: u64 = 0x9E37_79B9_7F4A_7C15;
     for item in list {
@@ -33,12 +33,12 @@ impl Lists {
         }
     }
 
-    /// How many different lists came.
+    /// How many different lists there are.
     pub fn len(&self) -> u32 {
         count(self.ends.len())
     }
 
-    /// The list with a number, and an empty one past the last.
+    /// Returns the list with a number, or an empty one past the last.
     pub fn list(&self, number: u32) -> &[u32] {
         if number >= self.len() {
             return &[];
@@ -51,7 +51,7 @@ impl Lists {
         between(&self.items, begin, at(&self.ends, number))
     }
 
-    /// The slot of a list, or the free one where it would stand.
+    /// Returns the slot of a list, or the free slot where it belongs.
     fn slot(&self, list: &[u32]) -> u32 {
         let many = self.slots.len() as u64;
         if many == 0 {
@@ -71,7 +71,7 @@ impl Lists {
         slot
     }
 
-    /// The number of a list, a new one if it didn't come before.
+    /// Returns the number of a list, which is added if it is new.
     pub fn number(&mut self, list: &[u32]) -> Found<u32> {
         if self.ends.len() >= self.slots.len() / 2 {
             self.grow()?;

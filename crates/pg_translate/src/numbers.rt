@@ -4,10 +4,10 @@ use crate::fault::{Found, TranslateFault};
 pub use pg_search_components::{NONE, at, count};
 use std::alloc::Global;
 
-/// How many edges, states times letters, may be made.
+/// The most edges, states times letters, that are made.
 pub const MOST_EDGES: usize = 1 << 24;
 
-/// The item at a place, and another one past the last.
+/// Returns the item at a place, or `other` past the last one.
 #[inline(always)]
 pub fn item<T: Copy + Drop>(items: &[T], place: u32, other: T) -> T {
     if (place as usize) < items.len() {
@@ -17,7 +17,7 @@ pub fn item<T: Copy + Drop>(items: &[T], place: u32, other: T) -> T {
     }
 }
 
-/// Puts an item to a place, if that is there.
+/// Puts an item at a place, if the list has that place.
 #[inline(always)]
 pub fn put<T: Copy + Drop>(items: &mut [T], place: u32, it: T) {
     if (place as usize) < items.len() {
@@ -25,7 +25,7 @@ pub fn put<T: Copy + Drop>(items: &mut [T], place: u32, it: T) {
     }
 }
 
-/// The items from one place to another, as far as they are there.
+/// Returns the items from one place up to, but not including, another, as far as the list goes.
 #[inline(always)]
 pub fn between<T>(items: &[T], from: u32, to: u32) -> &[T] {
     let to = (to as usize).min(items.len());
@@ -39,7 +39,7 @@ pub fn is_marked(marks: &[bool], place: u32) -> bool {
     item(marks, place, false)
 }
 
-/// Two to the power of `n`, which is below 32.
+/// Returns two to the power of `n`, which is below 32.
 #[inline(always)]
 pub fn power(n: u32) -> u32 {
     1u32.wrapping_shl(n)
@@ -51,7 +51,7 @@ pub fn has_bit(number: u32, n: u32) -> bool {
     number.wrapping_shr(n) & 1 == 1
 }
 
-/// The number whose bits at the places of a mask are those of a number, the least first.
+/// Spreads the low bits of a number over the places of a mask, the least first.
 pub fn spread(number: u32, mask: u32) -> u32 {
     let mut spread = 0;
     let mut rest = mask;
@@ -65,7 +65,7 @@ pub fn spread(number: u32, mask: u32) -> u32 {
     spread
 }
 
-/// The bits of a number at the places of a mask, the least first.
+/// Gathers the bits of a number at the places of a mask into the low bits, the least first.
 pub fn gathered(number: u32, mask: u32) -> u32 {
     let mut gathered = 0;
     let mut rest = mask;
@@ -79,7 +79,7 @@ pub fn gathered(number: u32, mask: u32) -> u32 {
     gathered
 }
 
-/// A number for each of some numbers, or `NONE`.
+/// A map from numbers to numbers: `NONE` where nothing is noted.
 #[derive(Drop)]
 pub struct Notes {
     of: Vec<u32>,
@@ -105,7 +105,7 @@ impl Notes {
     }
 }
 
-/// Takes steps from those that may still be made.
+/// Takes `many` steps from those that are left. Fails with `TooManySteps` once none are left.
 pub fn spend(steps: &mut u64, many: u64) -> Found<()> {
     *steps = steps.saturating_sub(many);
     if *steps == 0 {

@@ -19,12 +19,12 @@ struct Remembering {
     product: Product,
     ranks: Ranks,
     trees: Vec<Option<Tree>>,
-    /// States with a memory, and how they are entered.
+    /// States with a memory; `entered` has how each is entered.
     entries: Lists,
     entered: Vec<Climb>,
 }
 
-/// The components of the product.
+/// Finds the components of the product.
 fn ranks_of(alloc: Global, product: &Product) -> Found<Ranks> {
     let mut rows = Rows::with_capacity(alloc, product.states.len() as usize)?;
     for state in 0..product.states.len() {
@@ -40,7 +40,7 @@ fn ranks_of(alloc: Global, product: &Product) -> Found<Ranks> {
     Ranks::new(alloc, &rows, product.states.len())
 }
 
-/// The colours of the edges inside each component: those that are met on some edge, and on all.
+/// Returns the colours of the edges inside each component: those that are met on some edge, and those on all.
 fn inner_colours(alloc: Global, product: &Product, ranks: &Ranks) -> Found<(Vec<u32>, Vec<u32>)> {
     let mut some = vec![in alloc; 0u32; ranks.many as usize]?;
     let mut all = vec![in alloc; u32::MAX; ranks.many as usize]?;
@@ -59,7 +59,7 @@ fn inner_colours(alloc: Global, product: &Product, ranks: &Ranks) -> Found<(Vec<
 }
 
 impl Skeleton {
-    /// What is asked on a cycle of a component: what is asked besides the leaves is settled there.
+    /// Returns what is asked on a cycle of a component. Whatever is asked besides the leaves is settled there.
     fn condition(&mut self, asked: u32, letters: &[u32]) -> Found<u32> {
         let mut known = Notes::new(self.alloc);
         for variable in &self.progress.bdd.support(asked, NONE)? {
@@ -73,7 +73,7 @@ impl Skeleton {
         self.progress.bdd.replaced(asked, &known, &mut noted)
     }
 
-    /// The colours of the leaves of a diagram.
+    /// Returns the colours of the leaves of a diagram.
     fn colours_of(&mut self, diagram: u32) -> Found<u32> {
         let mut colours = 0;
         for variable in &self.progress.bdd.support(diagram, NONE)? {
@@ -85,7 +85,7 @@ impl Skeleton {
         Ok(colours)
     }
 
-    /// The trees of the components.
+    /// Returns the tree of each component that has a cycle.
     fn trees(&mut self, product: &Product, ranks: &Ranks) -> Found<Vec<Option<Tree>>> {
         let (some, all) = inner_colours(self.alloc, product, ranks)?;
         let examples = product.classes.examples(self.alloc)?;
@@ -121,7 +121,7 @@ impl Skeleton {
         Ok(trees)
     }
 
-    /// Numbers for the states of a product: those of one number are known to accept the same words.
+    /// Returns numbers for the states of a product: states with the same number are known to accept the same words.
     fn keys(&self, product: &Product) -> Found<Vec<u32>> {
         let mut numbers = Lists::new(self.alloc);
         let mut keys = Vec::new(self.alloc);
@@ -135,7 +135,7 @@ impl Skeleton {
         Ok(keys)
     }
 
-    /// The parity automaton of a product.
+    /// Returns the parity automaton of a product.
     pub fn parity(&mut self, product: Product) -> Found<Automaton> {
         let ranks = ranks_of(self.alloc, &product)?;
         let trees = self.trees(&product, &ranks)?;
@@ -186,8 +186,8 @@ impl Remembering {
         }
     }
 
-    /// The memory with which a state is entered that comes with one, and the greatest priority on the way: where each edge inside the
-    /// component climbs anyhow, the memory climbs at once.
+    /// Returns the memory with which a state is entered if `leaf` comes with it, and the greatest priority on the way: where each edge
+    /// inside the component climbs anyhow, the memory climbs at once.
     fn entered(&self, alloc: Global, state: u32, leaf: u32) -> Found<Climb> {
         let mut entered = Climb {
             next: leaf,
@@ -211,7 +211,7 @@ impl Remembering {
         Ok(entered)
     }
 
-    /// The lowest climb of an edge inside the component.
+    /// Returns the lowest climb of an edge inside the component, if there is one.
     fn least_climb(&self, tree: &Tree, state: u32, leaf: u32) -> Option<Climb> {
         let mut least: Option<Climb> = None;
         let mut last = NONE;
@@ -228,7 +228,7 @@ impl Remembering {
         least
     }
 
-    /// The memory behind an edge, and its priority.
+    /// Returns the memory after an edge, and the priority of the edge.
     fn step(&mut self, alloc: Global, state: u32, leaf: u32, edge: Edge) -> Found<Climb> {
         let stays = self.ranks.of(edge.target) == self.ranks.of(state);
         let climb = match self.tree(state) {
@@ -255,7 +255,7 @@ impl Remembering {
         })
     }
 
-    /// The memory with which the component of a state is entered.
+    /// Returns the memory with which the component of a state is entered.
     fn begin(&self, state: u32) -> u32 {
         match self.tree(state) {
             Some(tree) => tree.first_leaf(0),

@@ -1,4 +1,4 @@
-//! Formulas in negation normal form, each of which is kept once.
+//! Formulas in negation normal form, each stored once.
 
 use crate::fault::Found;
 use crate::lists::Lists;
@@ -6,7 +6,7 @@ use crate::numbers::{NONE, Notes, count, item, power};
 use indexmap::IndexSet;
 use std::alloc::Global;
 
-/// The formulas that are false and true.
+/// The formulas false and true.
 pub const FALSE: u32 = 0;
 
 pub const TRUE: u32 = 1;
@@ -15,7 +15,7 @@ pub const TRUE: u32 = 1;
 pub enum Operator {
     False,
     True,
-    /// A proposition, or its negation.
+    /// A proposition, or its negation if the flag is false.
     Literal(u32, bool),
     All,
     Any,
@@ -25,7 +25,7 @@ pub enum Operator {
 }
 
 impl Operator {
-    /// The operator of the negated operands that negates.
+    /// Returns the operator that gives the negation when applied to the negated operands.
     pub fn dual(self) -> Operator {
         match self {
             Operator::False => Operator::True,
@@ -51,23 +51,23 @@ struct Node {
     operands: u32,
 }
 
-/// What is known of a formula.
+/// What is known about a formula.
 #[derive(Clone, Copy)]
 pub struct Facts {
     /// Its propositions, as bits.
     pub propositions: u32,
-    /// The least k such that it is in Sigma k, and in Pi k, of the syntactic hierarchy.
+    /// The least k such that the formula is in Sigma k of the syntactic hierarchy; `pi` is the least k such that it is in Pi k.
     pub sigma: u32,
     pub pi: u32,
     /// Whether it is known to hold of a word exactly if it holds of each of the word's tails.
     pub is_suspendable: bool,
 }
 
-/// By which operators one goes from a formula to its parts.
+/// Which operators are followed from a formula to its parts.
 #[derive(Clone, Copy, PartialEq, Eq)]
 pub enum Reach {
     Junctions,
-    /// By those that don't look ahead.
+    /// The operators that don't look ahead: all but Next.
     Now,
     JunctionsAndNext,
     All,
@@ -84,7 +84,7 @@ impl Reach {
     }
 }
 
-/// Formulas, by numbers. Operands have smaller numbers.
+/// Formulas by number. Operands have smaller numbers than the formulas made of them.
 #[derive(Drop)]
 pub struct Pool {
     pub alloc: Global,
@@ -95,7 +95,7 @@ pub struct Pool {
 }
 
 impl Pool {
-    /// The formulas that are false and true.
+    /// Returns a pool with the formulas false and true.
     pub fn new(alloc: Global) -> Found<Pool> {
         let mut pool = Pool {
             alloc,
@@ -132,7 +132,7 @@ impl Pool {
         item(&self.facts, f, Facts::NONE)
     }
 
-    /// The formula of an operator and operands.
+    /// Returns the formula of an operator and operands, which is added if it is new.
     pub fn add(&mut self, operator: Operator, operands: &[u32]) -> Found<u32> {
         let operands = self.lists.number(operands)?;
         let (number, is_new) = self.nodes.insert_full(Node { operator, operands })?;
@@ -170,8 +170,8 @@ impl Pool {
         facts
     }
 
-    /// Whether these operands are such that a temporal formula holds of each tail if it holds of one: `F G f` and `G F f` are, and those
-    /// whose right one is so.
+    /// Whether a temporal formula with these operands holds of each tail of a word if it holds of one: `F G f` and `G F f` do, and so does
+    /// a formula whose right operand does.
     fn recurs(&self, left: u32, right: Operator, operands: &[u32]) -> bool {
         match operands {
             [f, g] => {
@@ -183,7 +183,7 @@ impl Pool {
         }
     }
 
-    /// The parts of a formula that one comes to by some operators, operands first, and the formula itself last.
+    /// Returns the parts of a formula that are reached through the operators of `reach`, operands first and the formula itself last.
     pub fn parts(&self, f: u32, reach: Reach) -> Found<Vec<u32>> {
         let mut parts = IndexSet::new(self.alloc);
         let _ = parts.insert_full(f)?;
@@ -202,7 +202,7 @@ impl Pool {
         Ok(sorted)
     }
 
-    /// The negation of a formula.
+    /// Returns the negation of a formula.
     pub fn negation(&mut self, f: u32) -> Found<u32> {
         for part in &self.parts(f, Reach::All)? {
             if self.negations.get(*part) != NONE {
@@ -220,7 +220,7 @@ impl Pool {
 }
 
 impl Facts {
-    /// Of a constant.
+    /// The facts of a constant.
     const NONE: Facts = Facts {
         propositions: 0,
         sigma: 0,

@@ -11,14 +11,14 @@ use std::alloc::Global;
 /// The product. Its edges are marked with the colours that are met.
 #[derive(Drop)]
 pub struct Product {
-    /// Of each state the diagram of what is asked, and the state of each leaf, or `NONE` for one that doesn't matter any more.
+    /// For each state, the diagram of what is asked and the state of each leaf, or `NONE` for a leaf that no longer matters.
     pub states: Lists,
     pub classes: Classes,
-    /// State by state the edge of each class.
+    /// The edge of each class, state by state.
     edges: Vec<Edge>,
 }
 
-/// The states that were met, and the edges of those that were looked at, letter by letter over the propositions of a mask.
+/// The states that were met, and the edges of those that were looked at, letter by letter over the propositions of each state's mask.
 #[derive(Drop)]
 struct Exploring {
     states: Lists,
@@ -29,21 +29,21 @@ struct Exploring {
 }
 
 impl Product {
-    /// The edges of a state, by classes.
+    /// Returns the edges of a state, by class.
     pub fn row(&self, state: u32) -> &[Edge] {
         let from = state.saturating_mul(self.classes.many);
         between(&self.edges, from, from.saturating_add(self.classes.many))
     }
 
-    /// The diagram of what is asked in a state.
+    /// Returns the diagram of what is asked in a state.
     pub fn asked(&self, state: u32) -> u32 {
         self.states.list(state).first().copied().unwrap_or(NEVER)
     }
 }
 
 impl Skeleton {
-    /// The state of the product of what is asked and the states of the leaves: leaves that are decided are put into the diagram, and
-    /// those that it doesn't look at don't matter.
+    /// Returns the state of the product for what is asked and the states of the leaves. Leaves that are decided are put into the diagram,
+    /// and leaves that it doesn't look at don't matter.
     fn settled(&mut self, list: &[u32]) -> Found<Vec<u32>> {
         let mut settled = Vec::from_slice(self.alloc, list)?;
         for _ in 0..list.len() {
@@ -80,7 +80,7 @@ impl Skeleton {
         Ok(settled)
     }
 
-    /// Puts the leaves' next states at a letter in place of those in the list, and answers the colours that are met.
+    /// Replaces the leaves' states in the list by their next states at a letter. Returns the colours that are met.
     fn lead(&self, list: &mut [u32], letter: u32) -> u32 {
         let mut met = 0;
         for (state, leaf) in list.iter_mut().skip(1).zip(&self.leaves) {
@@ -93,7 +93,7 @@ impl Skeleton {
         met
     }
 
-    /// The propositions on which the edges of a state depend, where `next` is what is asked of a letter and the rest behind it.
+    /// Returns the propositions on which the edges of a state depend; `next` is what is asked of a letter and the rest after it.
     fn mask(&mut self, list: &[u32], next: u32) -> Found<u32> {
         let mut mask = 0;
         for proposition in &self.progress.bdd.support(next, self.progress.propositions)? {
@@ -107,7 +107,7 @@ impl Skeleton {
         Ok(mask)
     }
 
-    /// Looks at the edges of a state.
+    /// Finds the edges of a state.
     fn explore(&mut self, exploring: &mut Exploring, number: u32) -> Found<()> {
         let list = Vec::from_slice(self.alloc, exploring.states.list(number))?;
         let asked = item(&list, 0, NEVER);
@@ -137,7 +137,7 @@ impl Skeleton {
         Ok(())
     }
 
-    /// The product that begins with what is asked.
+    /// Returns the product that begins with what is asked.
     pub fn product(&mut self, asked: u32) -> Found<Product> {
         let mut start = vec![in self.alloc; 0u32; self.leaves.len().saturating_add(1)]?;
         put(&mut start, 0, asked);
@@ -162,7 +162,7 @@ impl Skeleton {
     }
 }
 
-/// The product with its letters by classes.
+/// Returns the product with its letters in classes.
 fn by_classes(alloc: Global, exploring: Exploring, propositions: u32) -> Found<Product> {
     let mut classes = Classes::new(alloc, propositions)?;
     let mut begin = 0;

@@ -7,11 +7,11 @@ use crate::numbers::{NONE, Notes, at, count};
 use crate::pool::{Operator, Pool, Reach, TRUE};
 use std::alloc::Global;
 
-/// So many steps may be made with diagrams.
+/// The most steps that are made with diagrams.
 const STEPS: u64 = 1 << 24;
 
-/// What is asked, as diagrams. Variables below the number of propositions are those of the letter; each other one is an atom, a formula
-/// that is asked of the rest.
+/// What is asked, as diagrams. The variables below the number of propositions are those of the letter; each other variable is an atom, a
+/// formula that is asked of the rest of the word.
 #[derive(Drop)]
 pub struct Progress {
     pub bdd: Bdd,
@@ -20,15 +20,17 @@ pub struct Progress {
     atoms: Vec<u32>,
     /// Whether the negation of an atom is the negated atom.
     shares: bool,
-    /// For each formula its diagram, where it is asked of the rest, and where it is asked of a letter and the rest behind it.
+    /// For each formula, its diagram where it is asked of the rest; `expansions` has its diagram where it is asked of a letter and the rest
+    /// after it.
     asked: Notes,
     expansions: Notes,
-    /// For each variable what it asks of the next letter, and what of it is waited for; and the same for diagrams.
+    /// For each variable, what it asks of the next letter, and in `flat` what of it is waited for. `stepped` and `flattened` have the same
+    /// for diagrams.
     next: Notes,
     stepped: Notes,
     flat: Notes,
     flattened: Notes,
-    /// For each formula what is left of it if all that may last for ever does.
+    /// For each formula, what is left of it if everything that may last for ever does.
     lasting: Notes,
 }
 
@@ -49,18 +51,18 @@ impl Progress {
         })
     }
 
-    /// The formula of an atom.
+    /// Returns the formula of an atom.
     pub fn formula(&self, variable: u32) -> u32 {
         at(&self.atoms, variable.wrapping_sub(self.propositions))
     }
 
-    /// Says that an atom stays as it is.
+    /// Notes that an atom stays as it is.
     pub fn fix(&mut self, variable: u32) -> Found<()> {
         let same = self.bdd.variable(variable)?;
         self.next.set(variable, same)
     }
 
-    /// The atom of a formula, as a diagram.
+    /// Returns the atom of a formula as a diagram.
     pub fn atom(&mut self, pool: &mut Pool, f: u32) -> Found<u32> {
         let known = self.asked.get(f);
         if known != NONE {
@@ -80,7 +82,7 @@ impl Progress {
         Ok(diagram)
     }
 
-    /// The junction of diagrams.
+    /// Returns the conjunction or disjunction of diagrams.
     pub fn joined(&mut self, operator: Operator, notes: &[u32]) -> Found<u32> {
         let mut all = if operator == Operator::All {
             ALWAYS
@@ -97,7 +99,7 @@ impl Progress {
         Ok(all)
     }
 
-    /// A formula that is asked of the rest.
+    /// Returns the diagram of a formula that is asked of the rest.
     pub fn ask(&mut self, pool: &mut Pool, f: u32) -> Found<u32> {
         for part in &pool.parts(f, Reach::Junctions)? {
             if self.asked.get(*part) != NONE {
@@ -123,7 +125,7 @@ impl Progress {
         Ok(self.asked.get(f))
     }
 
-    /// What a formula asks of a letter and of the rest behind it.
+    /// Returns the diagram of what a formula asks of a letter and of the rest after it.
     fn expansion(&mut self, pool: &mut Pool, f: u32) -> Found<u32> {
         for part in &pool.parts(f, Reach::Now)? {
             if self.expansions.get(*part) == NONE {
@@ -134,7 +136,7 @@ impl Progress {
         Ok(self.expansions.get(f))
     }
 
-    /// The same, where that is known of its operands.
+    /// Returns the diagram of what a formula asks of a letter and of the rest after it, once the diagrams of its operands are known.
     fn expanded(&mut self, pool: &mut Pool, f: u32) -> Found<u32> {
         let operator = pool.operator(f);
         let operands = noted(pool, f, &self.expansions)?;
@@ -167,7 +169,7 @@ impl Progress {
         }
     }
 
-    /// What is asked is asked of the next letter.
+    /// Returns what a diagram asks of the next letter and of the rest after it.
     pub fn step(&mut self, pool: &mut Pool, f: u32) -> Found<u32> {
         for variable in &self.bdd.support(f, NONE)? {
             if self.next.get(*variable) == NONE {
@@ -179,7 +181,7 @@ impl Progress {
         self.bdd.replaced(f, &self.next, &mut self.stepped)
     }
 
-    /// What is left to wait for, if all that may last for ever does.
+    /// Returns what of a diagram is left to wait for, if everything that may last for ever does.
     pub fn waits(&mut self, pool: &mut Pool, f: u32) -> Found<u32> {
         for variable in &self.bdd.support(f, NONE)? {
             if self.flat.get(*variable) == NONE {
@@ -191,7 +193,7 @@ impl Progress {
         self.bdd.replaced(f, &self.flat, &mut self.flattened)
     }
 
-    /// The formula that is left of one, if all that may last for ever does.
+    /// Returns what is left of a formula, if everything that may last for ever does.
     fn awaited(&mut self, pool: &mut Pool, f: u32) -> Found<u32> {
         for part in &pool.parts(f, Reach::JunctionsAndNext)? {
             let operator = pool.operator(*part);
@@ -209,7 +211,7 @@ impl Progress {
     }
 }
 
-/// What is noted for the operands of a formula.
+/// Returns the notes for the operands of a formula.
 fn noted(pool: &Pool, f: u32, notes: &Notes) -> Found<Vec<u32>> {
     let mut operands = Vec::new(pool.alloc);
     for operand in pool.operands(f) {

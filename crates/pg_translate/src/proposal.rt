@@ -9,18 +9,19 @@ use crate::writing::text_of;
 use pg_ltl::{Formula, normal_form};
 use std::alloc::Global;
 
-/// So many states may a text have, and so many states times letters.
+/// The most states that a text may have; `MOST_PLACES` is the most states times letters.
 const MOST_STATES: u32 = 65_535;
 
 const MOST_PLACES: u64 = 1 << 24;
 
-/// Proposes the text of a deterministic parity automaton (HOA v1) that is to accept exactly the words that satisfy the formula. `names`
-/// has the name of each proposition, in the order of the formula's numbers. Nothing is believed of it.
+/// Proposes the text of a deterministic parity automaton (HOA v1) that is meant to accept exactly the words that satisfy the formula.
+/// `names` has the name of each proposition, in the order of the formula's numbers; there are at most 16. Nothing is proved about the text.
+/// Returns a `TranslateFault`, which lists the limits, if one of them is exceeded or memory runs out.
 ///
 /// 1. The formula is a combination of temporal formulas. Those that are safety or co-safety are progressed together, and each other one
 ///    becomes an automaton of its own, a leaf: by breakpoints, or by Safra's trees.
-/// 2. In each component of the product the leaves' priorities become one, by a Zielonka tree.
-/// 3. What comes out is made smaller.
+/// 2. In each component of the product, a Zielonka tree makes the leaves' priorities one priority.
+/// 3. The result is made smaller.
 pub fn propose(
     alloc: Global,
     formula: &Formula,

@@ -1,11 +1,11 @@
-//! A formula in negation normal form, from the list of its parts.
+//! Reads a formula in negation normal form from the list of its parts.
 
 use crate::fault::Found;
 use crate::numbers::{at, count};
 use crate::pool::{Operator, Pool};
 use pg_ltl::NormalNode;
 
-/// The operator of a part, and the places of its operands.
+/// Returns the operator of a part, the places of its operands, and how many operands there are.
 fn taken_apart(node: NormalNode) -> (Operator, [usize; 2], usize) {
     match node {
         NormalNode::Bottom => (Operator::False, [0, 0], 0),
@@ -20,7 +20,7 @@ fn taken_apart(node: NormalNode) -> (Operator, [usize; 2], usize) {
 }
 
 impl Pool {
-    /// The formula at a place of a list, in which operands stand before.
+    /// Returns the formula at place `root` of a list in which operands come before the formulas made of them.
     pub fn read(&mut self, nodes: &[NormalNode], root: usize) -> Found<u32> {
         let mut needed = vec![in self.alloc; false; nodes.len()]?;
         for place in (0..nodes.len()).rev() {

@@ -1,10 +1,10 @@
-//! Formulas rewritten as they are made.
+//! Rewrites formulas as they are made.
 
 use crate::fault::Found;
 use crate::numbers::power;
 use crate::pool::{FALSE, Operator, Pool, TRUE};
 
-/// The constants that a junction has no part of, and that it is if it has it as a part.
+/// Returns two constants: the one that a junction drops from its parts, and the one that it becomes if that is a part.
 fn unit_and_zero(operator: Operator) -> (u32, u32) {
     if operator == Operator::All {
         (TRUE, FALSE)
@@ -13,7 +13,7 @@ fn unit_and_zero(operator: Operator) -> (u32, u32) {
     }
 }
 
-/// The junction that goes with a temporal operator: `f U (g & h)` is `(f U g) & h` if `h` is suspendable.
+/// Returns the junction that goes with a temporal operator: `f U (g & h)` is `(f U g) & h` if `h` is suspendable.
 fn junction_of(operator: Operator) -> Operator {
     if operator == Operator::Until {
         Operator::All
@@ -23,7 +23,7 @@ fn junction_of(operator: Operator) -> Operator {
 }
 
 impl Pool {
-    /// The formula of an operator and its operands.
+    /// Returns the formula of an operator and its operands, simplified.
     pub fn make(&mut self, operator: Operator, operands: &[u32]) -> Found<u32> {
         match (operator, operands) {
             (Operator::True, _) => Ok(TRUE),
@@ -35,7 +35,7 @@ impl Pool {
         }
     }
 
-    /// A conjunction or a disjunction.
+    /// Returns the conjunction or disjunction of the parts, simplified.
     pub fn join(&mut self, operator: Operator, parts: &[u32]) -> Found<u32> {
         let (unit, zero) = unit_and_zero(operator);
         let mut flat = Vec::new(self.alloc);
@@ -58,7 +58,7 @@ impl Pool {
         }
     }
 
-    /// Whether a proposition and its negation are among these.
+    /// Whether a proposition and its negation are both among the parts.
     fn has_opposites(&self, parts: &[u32]) -> bool {
         let (mut positive, mut negative) = (0, 0);
         for f in parts {
@@ -71,6 +71,7 @@ impl Pool {
         positive & negative != 0
     }
 
+    /// Returns `X f`, or `f` itself if it is a constant or suspendable.
     pub fn next(&mut self, f: u32) -> Found<u32> {
         if f <= TRUE || self.facts(f).is_suspendable {
             return Ok(f);
@@ -78,7 +79,7 @@ impl Pool {
         self.add(Operator::Next, &[f])
     }
 
-    /// `left U right`, or by duality `left R right`; the rules are written for U. `F X f` is `X F f`, and `F (f U g)` is `F g`.
+    /// Returns `left U right`, or by duality `left R right`; the rules are written for U. `F X f` is `X F f`, and `F (f U g)` is `F g`.
     pub fn temporal(&mut self, operator: Operator, left: u32, right: u32) -> Found<u32> {
         let yes = unit_and_zero(junction_of(operator)).0;
         let mut right = right;
@@ -103,7 +104,7 @@ impl Pool {
         Ok(made)
     }
 
-    /// The same, where `right` may have suspendable parts.
+    /// Returns `left U right` or `left R right`, where `right` may have suspendable parts.
     fn temporal_of_any(&mut self, operator: Operator, left: u32, right: u32) -> Found<u32> {
         let junction = junction_of(operator);
         if self.operator(right) != junction {
@@ -123,7 +124,7 @@ impl Pool {
         self.join(junction, &outer)
     }
 
-    /// The same, where `right` has no suspendable parts.
+    /// Returns `left U right` or `left R right`, where `right` has no suspendable parts.
     fn temporal_of_plain(&mut self, operator: Operator, left: u32, right: u32) -> Found<u32> {
         let no = unit_and_zero(junction_of(operator)).1;
         let is_same = self.operator(right) == operator

@@ -10,7 +10,7 @@ use crate::numbers::{MOST_EDGES, NONE, count, has_bit, is_marked, item, put, spe
 use crate::pool::Pool;
 use std::alloc::Global;
 
-/// So many steps from node to node may be made.
+/// The most steps from node to node that are made.
 const STEPS: u64 = 1 << 27;
 
 /// A node: the place of its parent, and the states of its label as bits.
@@ -25,7 +25,7 @@ impl Node {
         self.label.iter().all(|word| *word == 0)
     }
 
-    /// Keeps the states of another label, or leaves them out.
+    /// Keeps only the states of another label, or removes them.
     fn cut(&mut self, label: &[u32], keeps: bool) {
         for (word, other) in self.label.iter_mut().zip(label) {
             *word &= if keeps { *other } else { !*other };
@@ -39,7 +39,7 @@ struct Tree {
     nodes: Vec<Node>,
 }
 
-/// The states to which those of a label lead.
+/// Returns the states to which those of a label lead at a letter, by all edges or only by those that accept.
 fn image(
     alloc: Global,
     buchi: &Buchi,
@@ -65,7 +65,7 @@ fn image(
 }
 
 impl Tree {
-    /// The tree that was written as a list.
+    /// Returns the tree that was written as a list; each label has `words` words.
     fn read(alloc: Global, list: &[u32], words: u32) -> Found<Tree> {
         let mut nodes = Vec::new(alloc);
         for part in list.chunks((words as usize).saturating_add(1)) {
@@ -79,7 +79,7 @@ impl Tree {
         Ok(Tree { nodes })
     }
 
-    /// The nodes behind a letter, and of each a new child for what was accepted, before anything is left out.
+    /// Returns the nodes after a letter, and for each a new child with what was accepted, before anything is left out.
     fn grown(&self, alloc: Global, buchi: &Buchi, letter: u32) -> Found<Tree> {
         let mut nodes = Vec::new(alloc);
         for node in &self.nodes {
@@ -97,7 +97,7 @@ impl Tree {
         Ok(Tree { nodes })
     }
 
-    /// Leaves out of each label what isn't in the parent's, and what is in that of an older child of it.
+    /// Removes from each label the states that aren't in the parent's label, and those in the label of an older child of the parent.
     fn part(&mut self) {
         for place in 1..self.nodes.len() {
             let place = place.min(self.nodes.len());
@@ -115,7 +115,7 @@ impl Tree {
         }
     }
 
-    /// Whether the labels of the children of a node are all of its label.
+    /// Whether the labels of a node's children together are all of its label.
     fn is_fulfilled(&self, alloc: Global, place: u32) -> Found<bool> {
         let Some(node) = self.nodes.get(place as usize) else {
             return Ok(false);
@@ -132,8 +132,8 @@ impl Tree {
         Ok(rest.is_empty())
     }
 
-    /// Which nodes go, where the first `old` were there before, and the least that happened: 2 i where the node i was fulfilled, 2 i - 1
-    /// where it went, or `NONE`.
+    /// Returns which nodes go, and the least event: 2 i if node i was fulfilled, 2 i - 1 if it went, or `NONE`. The first `old` nodes were
+    /// there before.
     fn leavers(&self, alloc: Global, old: u32) -> Found<(Vec<bool>, u32)> {
         let mut goes = vec![in alloc; false; self.nodes.len()]?;
         let mut event = NONE;
@@ -162,7 +162,7 @@ impl Tree {
         Ok((goes, event))
     }
 
-    /// The nodes that stay, as a list.
+    /// Returns the nodes that stay, as a list.
     fn written(&self, alloc: Global, goes: &[bool]) -> Found<Vec<u32>> {
         let mut places = vec![in alloc; 0u32; self.nodes.len()]?;
         let mut list = Vec::new(alloc);
@@ -180,7 +180,7 @@ impl Tree {
     }
 }
 
-/// The tree behind a letter, as a list, and the least that happened.
+/// Returns the tree after a letter as a list, and the least event.
 fn step(
     alloc: Global,
     buchi: &Buchi,
@@ -203,7 +203,7 @@ fn step(
     Ok((grown.written(alloc, &goes)?, event))
 }
 
-/// The automaton of any formula.
+/// Returns the automaton of any formula.
 pub fn by_trees(pool: &Pool, f: u32) -> Found<Leaf> {
     let alloc = pool.alloc;
     let mask = pool.facts(f).propositions;
@@ -237,7 +237,7 @@ pub fn by_trees(pool: &Pool, f: u32) -> Found<Leaf> {
     Leaf::new(&automaton, mask)
 }
 
-/// Makes priorities of what happened, of which the least counts.
+/// Turns events, of which the least counts, into priorities.
 fn turn(edges: &mut [Edge]) {
     let mut most = 0u32;
     for edge in edges.iter() {

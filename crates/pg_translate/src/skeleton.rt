@@ -36,12 +36,12 @@ impl Skeleton {
         })
     }
 
-    /// The number of the leaf of a variable, or `NONE`.
+    /// Returns the number of the leaf of a variable, or `NONE`.
     pub fn leaf_of(&self, variable: u32) -> u32 {
         self.leaf_of.get(variable)
     }
 
-    /// The diagram of a formula. Makes the leaves that it needs.
+    /// Returns the diagram of a formula, and makes the leaves that it needs.
     pub fn diagram(&mut self, f: u32) -> Found<u32> {
         let mut stack = vec![in self.alloc; f; 1]?;
         for _ in 0..u64::MAX {
@@ -65,7 +65,7 @@ impl Skeleton {
         Ok(self.known.get(f))
     }
 
-    /// The formulas whose diagrams that of a formula needs: its operands, or one formula that says the same.
+    /// Returns the formulas whose diagrams the diagram of a formula needs: its operands, or one formula that says the same.
     fn needed(&mut self, f: u32) -> Found<Vec<u32>> {
         if self.pool.operator(f).is_junction() {
             return Ok(Vec::from_slice(self.alloc, self.pool.operands(f))?);
@@ -83,7 +83,7 @@ impl Skeleton {
         Ok(needed)
     }
 
-    /// `X` of a junction, `G` of a conjunction and `F` of a disjunction as junctions.
+    /// Returns `X` of a junction, `G` of a conjunction or `F` of a disjunction as a junction, and any other formula as it is.
     fn distributed(&mut self, f: u32) -> Found<u32> {
         let operator = self.pool.operator(f);
         let operands = Vec::from_slice(self.alloc, self.pool.operands(f))?;
@@ -111,7 +111,7 @@ impl Skeleton {
         self.pool.join(junction, &parts)
     }
 
-    /// The diagram of a formula, where those that it needs are known.
+    /// Returns the diagram of a formula, once the diagrams that it needs are known.
     fn joined(&mut self, f: u32, needed: &[u32]) -> Found<u32> {
         let operator = self.pool.operator(f);
         let facts = self.pool.facts(f);
@@ -129,7 +129,7 @@ impl Skeleton {
         }
     }
 
-    /// The diagram of a formula that is a leaf, or the negation of one.
+    /// Returns the diagram of a formula that is a leaf or the negation of one.
     fn leaf(&mut self, f: u32) -> Found<u32> {
         let negation = self.pool.negation(f)?;
         let facts = self.pool.facts(f);
@@ -154,7 +154,7 @@ impl Skeleton {
         }
     }
 
-    /// Gives the leaves their colours.
+    /// Gives the leaves their colours. Fails with `TooManyStates` if there are more than 32 in all.
     pub fn colour(&mut self) -> Found<()> {
         let mut colours = 0u32;
         for leaf in self.leaves.iter_mut() {

@@ -1,5 +1,4 @@
-//! The tableau of a formula: sets of formulas, of which a word satisfies one if it goes from set to set by choices, and no Until is put off
-//! for ever.
+//! The tableau of a formula: sets of formulas. A word satisfies a set if choices lead it from set to set and no Until is put off for ever.
 
 use crate::fault::{Found, TranslateFault};
 use crate::lists::Lists;
@@ -7,7 +6,7 @@ use crate::numbers::{NONE, Notes, at, count};
 use crate::pool::{FALSE, Operator, Pool, Reach, TRUE};
 use std::alloc::Global;
 
-/// What is asked from the next step on, and the Untils that are put off, as bits.
+/// The formulas that are asked from the next step on, and the Untils that are put off, as bits.
 #[derive(Clone, Copy, PartialEq, Eq)]
 pub struct Choice {
     pub asks: u64,
@@ -24,13 +23,13 @@ impl Choice {
         }
     }
 
-    /// Whether it asks for no more than another one.
+    /// Whether this choice asks for no more, and puts off no more, than another one.
     fn is_within(self, other: Choice) -> bool {
         self.asks & !other.asks == 0 && self.puts & !other.puts == 0
     }
 }
 
-/// Leaves out choices that ask for more than another one.
+/// Leaves out each choice that asks for at least as much as another one.
 fn pruned(alloc: Global, choices: &[Choice]) -> Found<Vec<Choice>> {
     let mut kept: Vec<Choice> = Vec::new(alloc);
     for choice in choices {
@@ -42,7 +41,7 @@ fn pruned(alloc: Global, choices: &[Choice]) -> Found<Vec<Choice>> {
     Ok(kept)
 }
 
-/// The choices that are made together.
+/// Returns the choices that combine one of each list.
 fn together(alloc: Global, one: &[Choice], two: &[Choice]) -> Found<Vec<Choice>> {
     let mut all = Vec::new(alloc);
     for choice in one {
@@ -53,20 +52,20 @@ fn together(alloc: Global, one: &[Choice], two: &[Choice]) -> Found<Vec<Choice>>
     pruned(alloc, &all)
 }
 
-/// The choices of either list.
+/// Returns the choices of both lists.
 fn either(alloc: Global, one: &[Choice], two: &[Choice]) -> Found<Vec<Choice>> {
     let mut all = Vec::from_slice(alloc, one)?;
     all.extend_from_slice(two)?;
     pruned(alloc, &all)
 }
 
-/// The tableau. A formula that is asked has a place among the bits.
+/// The tableau. Each formula that is asked has a place among the bits.
 #[derive(Drop)]
 pub struct Tableau<'a> {
     pool: &'a Pool,
     formulas: Vec<u32>,
     places: Notes,
-    /// The choices of places at letters.
+    /// The places with letters whose choices are known; `choices` has these.
     known: Lists,
     choices: Vec<Vec<Choice>>,
 }
@@ -82,7 +81,7 @@ impl<'a> Tableau<'a> {
         }
     }
 
-    /// A formula that is asked, as a bit.
+    /// Returns the bit of a formula that is asked. Fails with `TooManyStates` if it is new and 64 others have one.
     fn bit(&mut self, f: u32) -> Found<u64> {
         if self.places.get(f) == NONE {
             if self.formulas.len() >= 64 {
@@ -94,7 +93,7 @@ impl<'a> Tableau<'a> {
         Ok(1u64.wrapping_shl(self.places.get(f)))
     }
 
-    /// A formula as a set of those that are asked; none if it is false.
+    /// Returns a formula as the set of the formulas that are asked, or `None` if it is false.
     pub fn asked(&mut self, f: u32) -> Found<Option<u64>> {
         match f {
             FALSE => return Ok(None),
@@ -111,7 +110,7 @@ impl<'a> Tableau<'a> {
         Ok(Some(set))
     }
 
-    /// The choices of a set at a letter.
+    /// Returns the choices of a set at a letter.
     pub fn choices(&mut self, set: u64, letter: u32) -> Found<Vec<Choice>> {
         let mut all = vec![in self.pool.alloc; Choice::FREE; 1]?;
         for place in 0..count(self.formulas.len()) {
@@ -125,7 +124,7 @@ impl<'a> Tableau<'a> {
         Ok(all)
     }
 
-    /// The number of the choices of a formula at a letter.
+    /// Returns the number of the list of a formula's choices at a letter.
     fn choices_of_place(&mut self, place: u32, letter: u32) -> Found<u32> {
         let f = at(&self.formulas, place);
         let number = self
@@ -138,7 +137,7 @@ impl<'a> Tableau<'a> {
         Ok(number)
     }
 
-    /// The choices of a formula, from those of its parts.
+    /// Returns the choices of a formula, from those of its parts.
     fn expanded(&mut self, f: u32, letter: u32) -> Found<Vec<Choice>> {
         let mut places = Notes::new(self.pool.alloc);
         let mut found: Vec<Vec<Choice>> = Vec::new(self.pool.alloc);

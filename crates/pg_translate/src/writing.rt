@@ -6,14 +6,14 @@ use crate::lists::Lists;
 use crate::numbers::{NONE, between, count, has_bit, item, power};
 use std::alloc::Global;
 
-/// Letters that lead to the same: the propositions that are said, and which of these hold, as bits.
+/// Letters with the same edge: the propositions that are named, and which of these hold, as bits.
 #[derive(Clone, Copy)]
 struct Cube {
     said: u32,
     holding: u32,
 }
 
-/// A cube, and the place from which on the edges of its letters stand; so many propositions aren't parted yet.
+/// A cube, the place at which the edges of its letters begin, and how many propositions aren't split yet.
 #[derive(Clone, Copy)]
 struct Part {
     cube: Cube,
@@ -39,7 +39,7 @@ impl Writer {
         self.word(digits.as_bytes())
     }
 
-    /// A name in quotes.
+    /// Writes a name in quotes, with quotes and backslashes escaped.
     fn quoted(&mut self, name: &[u8]) -> Found<()> {
         self.word(b"\"")?;
         for byte in name {
@@ -51,7 +51,7 @@ impl Writer {
         self.word(b"\"")
     }
 
-    /// The condition that the greatest set that recurs is even.
+    /// Writes the condition that the greatest set that recurs is even.
     fn condition(&mut self, sets: u32) -> Found<()> {
         for set in (1..sets).rev() {
             self.word(if set % 2 == 0 { b"Inf(" } else { b"Fin(" })?;
@@ -106,7 +106,7 @@ impl Writer {
         Ok(())
     }
 
-    /// An edge, for the cubes with its number.
+    /// Writes an edge, labelled with the cubes that have its number.
     fn edge(&mut self, cubes: &[(u32, Cube)], number: u32, edge: &[u32]) -> Found<()> {
         let mut is_first = true;
         for (other, cube) in cubes {
@@ -127,7 +127,7 @@ impl Writer {
     }
 }
 
-/// The cubes of the edges of a state, which are given letter by letter, with the numbers of these edges.
+/// Returns the cubes of the edges of a state, with the numbers of these edges. The edges are given letter by letter.
 fn cubes(
     alloc: Global,
     row: &[Edge],
@@ -175,7 +175,7 @@ fn cubes(
     Ok(found)
 }
 
-/// The text of an automaton. A state that accepts nothing is left out, if it isn't the first one.
+/// Returns the text of an automaton. A state that leads only to itself and rejects is left out, if it isn't the first one.
 pub fn text_of(automaton: &Automaton, names: &[Vec<u8>]) -> Found<Vec<u8>> {
     let alloc = automaton.alloc;
     let mut sink = NONE;
@@ -200,12 +200,12 @@ pub fn text_of(automaton: &Automaton, names: &[Vec<u8>]) -> Found<Vec<u8>> {
     Ok(writer.text)
 }
 
-/// The number of a state in the text.
+/// Returns the number of a state in the text.
 fn number_in_text(state: u32, sink: u32) -> u32 {
     if state > sink { state - 1 } else { state }
 }
 
-/// Writes a state, and its edges to other states than the one that is left out.
+/// Writes a state and its edges, except those to the state that is left out.
 fn write_state(
     writer: &mut Writer,
     automaton: &Automaton,

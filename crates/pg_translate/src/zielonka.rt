@@ -1,4 +1,5 @@
-//! Zielonka trees (Theoretical Computer Science 200, 1998) of conditions over colours, and the parity automata that remember a leaf of one.
+//! Zielonka trees (Theoretical Computer Science 200, 1998) of conditions over colours, and the parity automata that remember a leaf of
+//! such a tree.
 
 use crate::bdd::ALWAYS;
 use crate::fault::{Found, TranslateFault};
@@ -6,13 +7,13 @@ use crate::numbers::{NONE, at, count, power, spend};
 use crate::skeleton::Skeleton;
 use std::alloc::Global;
 
-/// So many sets of colours may be looked at for a tree.
+/// The most sets of colours that are looked at for a tree.
 const STEPS: u64 = 1 << 22;
 
-/// A tree may have so many nodes.
+/// The most nodes that a tree may have.
 const MOST_NODES: usize = 1 << 17;
 
-/// Which sets of colours that recur are accepted: a diagram over leaves.
+/// Which sets of recurring colours are accepted: a diagram over leaves.
 #[derive(Clone, Copy)]
 pub struct Condition<'a> {
     pub skeleton: &'a Skeleton,
@@ -39,7 +40,7 @@ impl Condition<'_> {
     }
 }
 
-/// A set of colours. Its children are the greatest subsets that are accepted if it isn't, or the other way round.
+/// A set of colours. Its children are the greatest subsets that are accepted if it isn't, and that aren't if it is.
 #[derive(Drop)]
 struct Node {
     colours: u32,
@@ -48,7 +49,7 @@ struct Node {
     depth: u32,
 }
 
-/// The leaf behind a climb, and its priority: the less, the lower the node that is come to.
+/// The leaf after a climb, and the priority of the climb: the lower the node that is reached, the less the priority.
 #[derive(Clone, Copy)]
 pub struct Climb {
     pub next: u32,
@@ -63,12 +64,12 @@ pub struct Tree {
     greatest: u32,
 }
 
-/// Whether a set is part of one of these.
+/// Whether a set is a subset of one of the others.
 fn is_within_any(set: u32, others: &[u32]) -> bool {
     others.iter().any(|other| set & !*other == 0)
 }
 
-/// The greatest subsets of a set with the other value, where the fixed colours aren't left out.
+/// Returns the greatest subsets of a set that have the other value and all of the fixed colours.
 fn alternatives(
     alloc: Global,
     condition: &Condition,
@@ -105,7 +106,7 @@ fn alternatives(
 }
 
 impl Tree {
-    /// The tree of a condition over colours, of which the fixed ones are met on each cycle.
+    /// Returns the tree of a condition over colours. The fixed ones of these are met on each cycle.
     pub fn new(alloc: Global, condition: &Condition, colours: u32, fixed: u32) -> Found<Tree> {
         let mut nodes: Vec<Node> = Vec::new(alloc);
         nodes.push(Node {
@@ -154,7 +155,7 @@ impl Tree {
         }
     }
 
-    /// The first leaf below a node.
+    /// Returns the first leaf below a node.
     pub fn first_leaf(&self, node: u32) -> u32 {
         let mut leaf = node;
         for _ in 0..self.nodes.len() {
@@ -173,7 +174,7 @@ impl Tree {
         }
     }
 
-    /// The least node above a leaf that has all colours that are met.
+    /// Climbs from a leaf to the lowest node that has all colours that are met.
     pub fn climb(&self, leaf: u32, met: u32) -> Climb {
         let all = match self.nodes.first() {
             Some(root) => root.colours,
@@ -198,7 +199,7 @@ impl Tree {
         Climb { next, priority }
     }
 
-    /// The child of a node behind one, or the first one behind the last.
+    /// Returns the child of a node after `child`, or the first one after the last.
     fn sibling(&self, node: u32, child: u32) -> u32 {
         let children = self.children(node);
         let place = children.iter().position(|it| *it == child).unwrap_or(0);

@@ -7,7 +7,7 @@ use Rattle.pg_aiger_netlist.specs.Netlists.{IsAcyclic}
 use Rattle.pg_verify.specs.declared.verdict.Verdict.{Verdict}
 use Rattle.pg_verify.specs.Verdicts.{IsAcceptance, IsCorrect, Says}
 
--- a verdict that is right accepts exactly the circuits whose every run is accepted
+-- a right verdict accepts exactly the circuits whose every run is accepted
 abbrev pub VerdictsDecide : Type 0
 VerdictsDecide =
     (a : Automaton) (condition : Formula) (circuit : Circuit) (verdict : Verdict) → IsAcyclic circuit

@@ -12,18 +12,18 @@ use Rattle.pg_verify.specs.Reached.{Pair, pair}
 abbrev pub pair_at : List Pair → ℕ → Pair
 pair_at pairs k = slice_index_or pairs k (pair 0 0)
 
--- a step of the product: it leads to the latches and where the automaton's step does, by the same sets
+-- a step of the product: it leads to these latches and to the target of the automaton's step, with the same sets
 abbrev pub Leads : List Pair → ℕ → Option Step → Option Step → Type 0
 Leads pairs latches None made = made ≡ None
 Leads pairs latches (Some s) made =
     (n : ℕ) × (n < length pairs) × (pair_at pairs n ≡ pair latches s.target) × (made ≡ Some (step n s.sets))
 
--- the outputs and the latches that follow, in each valuation of the step
+-- the outputs and the next latches, in each valuation of the step
 abbrev pub Gives : Circuit → ℕ → ℕ → ℕ → ℕ → Type 0
 Gives circuit state letter output latches =
     (v : Valuation) → IsStepAt circuit state letter v → (output ≡ number_of v circuit.outputs) × (latches ≡ number_of v (nexts circuit))
 
--- from a state of the product the input letter leads where the circuit's output and the automaton's step do
+-- from a state of the product the input letter leads where the circuit's output and the automaton's step lead
 pub record IsMove (a : Automaton) (circuit : Circuit) (pairs : List Pair) (k i : ℕ) (made : Option Step) : Type 0 where
   pub output : ℕ
   pub latches : ℕ
@@ -36,7 +36,7 @@ pub record HasWholeLetters (p : Automaton) : Type 0 where
   pub no_outputs : output_letters p ≡ 1
   pub unjoined : (l o : ℕ) → l < letters p → joined p.controllable l o ≡ l
 
--- An automaton over the input letters, in whose states the circuit's latches and the automaton's state are kept.
+-- An automaton over the input letters, whose states hold the circuit's latches and the automaton's state.
 pub record IsProductOf (a : Automaton) (circuit : Circuit) (product : Automaton) : Type 0 where
   pub is_automaton : IsAutomaton product
   pub sets : product.sets ≡ a.sets
@@ -48,7 +48,7 @@ pub record IsProductOf (a : Automaton) (circuit : Circuit) (product : Automaton)
   pub start : pair_at pairs product.start ≡ pair 0 a.start
   pub moves : (k i : ℕ) → k < length pairs → i < input_letters a → IsMove a circuit pairs k i (next product k i)
 
--- it has a game that is over the limits
+-- the product has a game that is over the limits
 abbrev pub HasLargeGame : Automaton → Circuit → Type 0
 HasLargeGame a circuit =
     (product : Automaton) × (game : List GameVertex) × IsProductOf a circuit product × IsGameOfAutomaton product game × ¬ IsWithinLimits game

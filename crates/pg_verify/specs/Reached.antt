@@ -17,8 +17,8 @@ pub record Pair : Type 0 where
 abbrev pub pair : ℕ → ℕ → Pair
 pair latches state = record { latches = latches; state = state }
 
--- At some input letter the circuit steps from these latches to those, and the automaton goes from this state to that by the letter
--- which the circuit makes.
+-- At some input letter the circuit steps from the first pair's latches to the second's, and the automaton goes from the first pair's
+-- state to the second's by the letter that the circuit makes.
 pub record IsStepTo (a : Automaton) (circuit : Circuit) (here there : Pair) : Type 0 where
   pub input : ℕ
   pub input_in : input < input_letters a
@@ -28,7 +28,7 @@ pub record IsStepTo (a : Automaton) (circuit : Circuit) (here there : Pair) : Ty
   pub taken : next a here.state (joined a.controllable input output) ≡ Some step
   pub target : step.target ≡ there.state
 
--- so many steps lead there from the initial state, in which no latch is set
+-- this many steps lead there from the initial state, in which no latch is set
 abbrev pub IsReachedIn : Automaton → Circuit → ℕ → Pair → Type 0
 IsReachedIn a circuit zero there = there ≡ pair 0 a.start
 IsReachedIn a circuit (suc n) there = (here : Pair) × IsReachedIn a circuit n here × IsStepTo a circuit here there
@@ -40,7 +40,7 @@ IsReached a circuit there = (n : ℕ) × IsReachedIn a circuit n there
 abbrev pub most_states : Automaton → ℕ
 most_states a = min 65535 (16777216 / input_letters a)
 
--- more states are reached
+-- more states than `most_states` are reached
 pub record HasTooManyStates (a : Automaton) (circuit : Circuit) : Type 0 where
   pub states : List Pair
   pub distinct : AllPairs (λ x y. x ≢ y) states

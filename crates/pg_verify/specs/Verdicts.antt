@@ -1,4 +1,4 @@
--- What is found of a circuit and an automaton.
+-- Verdicts on a circuit and an automaton.
 use Rattle.std.specs.Prelude.{◌≡◌, ◌≢◌, ℕ, ◌-◌, ◌<◌, ◌%◌, nat_lt, if◌then◌else◌, List, [], length, slice_index_or, None, All}
 use Rattle.pg_hoa_automaton.specs.Automata.{Automaton}
 use Rattle.pg_hoa_automaton.specs.Formulas.{Formula}
@@ -16,11 +16,11 @@ abbrev pub AcceptsOn : Automaton → Formula → Circuit → (ℕ → ℕ) → T
 AcceptsOn a condition circuit input =
     HasOneRun circuit input × ((word : ℕ → ℕ) → IsWordOf circuit a.controllable input word → IsAccepted a condition word)
 
--- so it is on every endless input word
+-- on every endless input word the circuit has one run, and the automaton accepts the word that the run makes
 abbrev pub IsCorrect : Automaton → Formula → Circuit → Type 0
 IsCorrect a condition circuit = (input : ℕ → ℕ) → IsInputWord a input → AcceptsOn a condition circuit input
 
--- the first letters, and then the others over and over
+-- the letters of the stem, and then the letters of the loop over and over
 abbrev pub lasso : List ℕ → List ℕ → ℕ → ℕ
 lasso stem loop t =
     if nat_lt t (length stem) then slice_index_or stem t 0 else slice_index_or loop ((t - length stem) % length loop) 0
@@ -38,7 +38,7 @@ pub record IsRejected (a : Automaton) (condition : Formula) (circuit : Circuit) 
   pub repeats : loop ≢ []
   pub rejects : (word : ℕ → ℕ) → IsWordOf circuit a.controllable (lasso stem loop) word → ¬ IsAccepted a condition word
 
--- what the verdict says, under a condition of the automaton's shape
+-- the verdict is right, under a condition of the automaton's shape
 abbrev pub Says : Automaton → Formula → Circuit → Verdict → Type 0
 Says a condition circuit Accepted = IsCorrect a condition circuit
 Says a condition circuit (Stuck letters) = IsStuck a circuit letters.items

@@ -9,7 +9,7 @@ use thiserror::Error;
 /// Why there is no product.
 #[derive(Clone, Copy, Debug, PartialEq, Eq, Error)]
 pub enum VerifyFault {
-    /// A growth was refused.
+    /// Memory ran out.
     #[error("out of memory")]
     OutOfMemory,
     /// More than 65,535 states are reached, or more than 16,777,216 states times input letters.

@@ -1,9 +1,9 @@
-//! How many propositions each player sets.
+//! The number of propositions that each player sets.
 
 ghost use Rattle.std.specs.Prelude.{◌≡◌, ◌≤◌, length};
 ghost use Rattle.pg_synth.specs.Letters.{inputs};
 
-/// How many propositions the environment sets.
+/// Returns how many propositions the environment sets.
 pub(crate) fn count_inputs(controllable: &[bool]) -> u32
     requires { length controllable.now ≤ 16 }
     ensures value { result ≡ inputs controllable.now }

@@ -24,16 +24,16 @@ use std::collections::BTreeMap;
 #[derive(Drop)]
 struct Draft {
     rows: IndexSet<Row>,
-    /// The state that is looked for.
+    /// The state that is being looked up.
     wanted: Row,
     slots: Vec<u32>,
     steps: Vec<Stored>,
     lists: Vec<Vec<u32>>,
-    /// Places of lists that may be known.
+    /// Proposals for the places of lists.
     listed: BTreeMap<Vec<u32>, u32>,
 }
 
-/// The slot for the step that the automaton's step makes with these latches.
+/// Returns the slot of the product's step that takes the automaton's step with these latches, or 0 if the automaton has none.
 fn slot_for(
     alloc: Global,
     automaton: &Automaton,
@@ -70,7 +70,7 @@ fn slot_for(
     }
 }
 
-/// Appends the slot of a state's step at an input letter, whose values a lane has.
+/// Appends the slot of a state's step at an input letter, whose values are in a lane of `values`.
 fn push_step(
     alloc: Global,
     automaton: &Automaton,
@@ -114,7 +114,7 @@ fn push_step(
     Ok(())
 }
 
-/// Puts the values of a state's steps at 64 input letters into the row, where the letter is the first of them.
+/// Fills the row with the values of a state's steps at 64 input letters, if `input` is the first of them.
 fn fill(netlist: &Netlist, rows: &[Row], k: usize, input: u32, values: &mut [u64])
     requires inputs { length netlist.now.inputs ≤ 16 }
     requires input { input < 65536 }
@@ -129,7 +129,7 @@ fn fill(netlist: &Netlist, rows: &[Row], k: usize, input: u32, values: &mut [u64
     }
 }
 
-/// The steps of a state at all input letters.
+/// Appends the slots of a state's steps at all input letters.
 fn push_state(
     alloc: Global,
     automaton: &Automaton,
@@ -180,7 +180,7 @@ fn push_state(
     Ok(())
 }
 
-/// The initial state: no latch is set.
+/// Returns the initial state, in which no latch is set.
 fn first_row(alloc: Global, latches: usize, state: u32) -> Result<Row, AllocError>
     ensures wide { IfOk result (λ row. length row.latches.items ≡ latches) }
     ensures first { IfOk result (λ row. pair_of row ≡ pair 0 state) }
@@ -192,7 +192,7 @@ fn first_row(alloc: Global, latches: usize, state: u32) -> Result<Row, AllocErro
     })
 }
 
-/// The initial state alone.
+/// Returns a draft with the initial state alone.
 fn first_draft(alloc: Global, latches: usize, state: u32) -> Result<Draft, AllocError>
     ensures wide { IfOk result (λ draft. AreWide latches draft.rows.keys) }
     ensures first { IfOk result (λ draft. map pair_of draft.rows.keys ≡ pair 0 state ∷ []) }
@@ -210,7 +210,7 @@ fn first_draft(alloc: Global, latches: usize, state: u32) -> Result<Draft, Alloc
     })
 }
 
-/// How many states a product may have.
+/// Returns the greatest number of states that a product can have.
 fn most_states(letters: u32) -> u32
     requires { 0 < letters }
     ensures { result ≡ min 65535 (16777216 / letters) }
@@ -218,7 +218,7 @@ fn most_states(letters: u32) -> u32
     (16_777_216 / letters).min(65_535)
 }
 
-/// The steps of all states that are met from the initial one on.
+/// Returns the states that are reached from the initial one, with all their steps. It fails with `TooLarge` if there are too many states.
 fn explore(
     alloc: Global,
     automaton: &Automaton,
@@ -266,7 +266,7 @@ fn explore(
     Ok(draft)
 }
 
-/// A name for each input.
+/// Returns a name for each input.
 fn names(alloc: Global, count: u32) -> Result<Vec<Vec<u8>>, AllocError>
     ensures { IfOk result (λ names. map (λ v. v.items) names.items ≡ same_names count) }
 {
@@ -277,7 +277,7 @@ fn names(alloc: Global, count: u32) -> Result<Vec<Vec<u8>>, AllocError>
     Ok(names)
 }
 
-/// That the controller sets none of so many propositions.
+/// Returns a mark for each of `count` propositions, which says that the controller doesn't set it.
 fn none_controlled(alloc: Global, count: u32) -> Result<Vec<bool>, AllocError>
     ensures { IfOk result (λ list. list.items ≡ replicate count false) }
 {
@@ -288,9 +288,12 @@ fn none_controlled(alloc: Global, count: u32) -> Result<Vec<bool>, AllocError>
     Ok(list)
 }
 
-/// Makes the product of a circuit and an automaton, an automaton whose letters are the circuit's input letters: bit j
-/// of a letter is the circuit's j-th input. It fails with `TooLarge` if and only if more than 65,535 states are reached, or more
-/// than 16,777,216 states times input letters, and with `OutOfMemory` if memory runs out.
+/// Makes the product of a circuit and an automaton, an automaton whose letters are the circuit's input letters: bit j of a letter is the
+/// circuit's j-th input. The circuit must have as many inputs as the environment sets propositions, and as many outputs as the controller
+/// sets.
+///
+/// It fails with `TooLarge` if and only if more than 65,535 states are reached, or more than 16,777,216 states times input letters, and
+/// with `OutOfMemory` if memory runs out.
 pub fn product_of(
     alloc: Global,
     automaton: &Automaton,
@@ -302,7 +305,7 @@ pub fn product_of(
     ensures within { OnOk result (¬ HasTooManyStates automaton.now netlist.now) }
     ensures refused { IfErr result (HasNoProduct automaton.now netlist.now) }
 {
-    // asked for what its contract says of the automaton
+    // called only for what its contract says about the automaton
     let _states = automaton.states();
     let controllable = marks(alloc, automaton)?;
     let inputs = count_inputs(&controllable);
@@ -320,8 +323,8 @@ pub fn product_of(
     Ok(Automaton::from_parts(0, names, none, automaton.sets(), automaton.shape(), table))
 }
 
-/// The product, where the circuit has as many inputs and outputs as the automaton has propositions of each kind; else none. Refuses what
-/// `product_of` does.
+/// Makes the product, if the circuit has as many inputs and outputs as the automaton has propositions of each kind, and otherwise returns
+/// `None`. It fails as `product_of` does.
 pub fn product_if_tied(
     alloc: Global,
     automaton: &Automaton,
@@ -329,7 +332,7 @@ pub fn product_if_tied(
 ) -> Result<Option<Automaton>, VerifyFault>
     ensures { IfOk result (λ found. IfSome found (IsProductOf automaton.now netlist.now)) }
 {
-    // asked for what its contract says of the automaton
+    // called only for what its contract says about the automaton
     let _states = automaton.states();
     let controllable = marks(alloc, automaton)?;
     let inputs = count_inputs(&controllable) as usize;

@@ -25,7 +25,7 @@ fn copy_of(alloc: Global, row: &Row) -> Result<Row, AllocError>
     })
 }
 
-/// Makes a row that of these latches and this state.
+/// Sets a row to these latches and this state.
 pub(crate) fn set_row(row: &mut Row, latches: &[bool], state: u32) -> Result<(), AllocError>
     ensures latches { OnOk result (row.new.latches.items ≡ latches.now) }
     ensures state { OnOk result (row.new.state ≡ state) }
@@ -36,7 +36,7 @@ pub(crate) fn set_row(row: &mut Row, latches: &[bool], state: u32) -> Result<(),
     Ok(())
 }
 
-/// The number of a state, which is put behind the others if it has none.
+/// Returns the number of a state. It appends the state to the others if it has no number yet.
 pub(crate) fn number_of(
     alloc: Global,
     rows: &mut IndexSet<Row>,
@@ -55,7 +55,7 @@ pub(crate) fn number_of(
     Ok(number as u32)
 }
 
-/// The states in the order of their numbers, each once.
+/// Returns the states in the order of their numbers, each once.
 pub(crate) fn listed(rows: &IndexSet<Row>) -> &[Row]
     ensures same { result.now ≡ rows.now.keys }
     ensures distinct { (width : ℕ) → AreWide width rows.now.keys → AllPairs (λ x y. x ≢ y) (map pair_of rows.now.keys) }

@@ -1,4 +1,4 @@
-//! The table of the product's steps while it is made.
+//! The table of the product's steps while it is being made.
 
 ghost use Rattle.std.specs.Prelude.{◌≡◌, ◌+◌, ◌<◌, ◌≤◌, ◌++◌, ◌∷◌, [], true, IfOk, OnOk, IfSome, map, length, slice_get};
 ghost use Rattle.pg_hoa_automaton.specs.Automata.{step};
@@ -9,14 +9,14 @@ use pg_hoa_automaton::Stored;
 use std::alloc::{AllocError, Global};
 use std::collections::BTreeMap;
 
-/// Whether the lists are the same; where the answer is no they may be.
+/// Whether the lists are the same. Only a yes is promised to be right.
 fn is_same_list(a: &[u32], b: &[u32]) -> bool
     ensures { result ≡ true → a.now ≡ b.now }
 {
     a == b
 }
 
-/// The place of the list, if it is known.
+/// Returns the place of the list, if it is known.
 fn known_place(lists: &[Vec<u32>], known: &BTreeMap<Vec<u32>, u32>, sets: &[u32]) -> Option<u32>
     ensures { IfSome result (λ place. slice_get (map (λ v. v.items) lists.now) place ≡ Some sets.now) }
 {
@@ -25,7 +25,7 @@ fn known_place(lists: &[Vec<u32>], known: &BTreeMap<Vec<u32>, u32>, sets: &[u32]
     is_same_list(list.as_slice(), sets).then_some(place)
 }
 
-/// The place of the list, which is put behind the others if it isn't known. Nothing is believed of the known places.
+/// Returns the place of the list. It appends the list to the others if it isn't known. The known places are checked, not trusted.
 fn put_list(
     alloc: Global,
     lists: &mut Vec<Vec<u32>>,
@@ -46,8 +46,9 @@ fn put_list(
     Ok(place as u32)
 }
 
-/// Stores a step, and gives its number, counted from 1. Of lists of sets that are alike one is kept; `known` has the places of lists, and is
-/// empty at first.
+/// Appends a step, and returns its number, counted from 1. It keeps one of equal lists of sets; `known` has the places of lists, and is
+/// empty at first. Before the call there must be fewer than 4,294,967,295 steps, and fewer than 4,294,967,295 lists. It fails only if
+/// memory runs out.
 pub fn store(
     alloc: Global,
     steps: &mut Vec<Stored>,

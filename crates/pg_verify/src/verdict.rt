@@ -48,7 +48,7 @@ pub fn verdict_of(
         → length circuit.inputs ≡ inputs a.controllable → FitsShape condition a.sets a.shape → IsProductOf a circuit product.now
         → Says a condition circuit verdict) }
 {
-    // asked for what its contract says of the automaton
+    // called only for what its contract says about the automaton
     let _states = product.states();
     match solution.winner(synth.initial) {
         Player::Even => Ok(Verdict::Accepted),

@@ -1,4 +1,4 @@
-//! A counterexample, by Odd's choices in the game of a product.
+//! Counterexamples, by Odd's choices in the game of a product.
 
 ghost use Rattle.std.specs.Prelude.{◌≡◌, ℕ, ◌^◌, ◌<◌, ◌≤◌, ◌∷◌, [], length, Option, Some, IfOk};
 ghost use Rattle.pg_arena.specs.declared.player.Player.TheVariants.{Odd};
@@ -20,7 +20,7 @@ use pg_synth::SynthGame;
 use pg_text::Solution;
 use std::alloc::{AllocError, Global};
 
-/// The first successor of a vertex.
+/// Returns the first successor of a vertex.
 fn first_successor(game: &Game, v: Vertex) -> Option<Vertex>
     requires { v < length game.now }
     ensures { (w : ℕ) × (result ≡ Some w) × IsEdge game.now v w }
@@ -29,7 +29,7 @@ fn first_successor(game: &Game, v: Vertex) -> Option<Vertex>
     game.successors(v).first().copied()
 }
 
-/// The identifier of the answer at a state to the first input letter; those to the others follow it.
+/// Returns the identifier of the answer at a state to the first input letter. The identifiers of the answers to the others follow it.
 fn first_answer(product: &Automaton, state: u32) -> u32
     requires automaton { IsAutomaton product.now }
     requires whole { HasWholeLetters product.now }
@@ -41,7 +41,7 @@ fn first_answer(product: &Automaton, state: u32) -> u32
     1 + state * width + sets + 1
 }
 
-/// The input letter that Odd chooses at an arrival, and the vertex to which it leads.
+/// Returns the input letter that Odd chooses at an arrival, and the vertex to which it leads.
 fn chosen_step(
     product: &Automaton,
     synth: &SynthGame,
@@ -58,7 +58,7 @@ fn chosen_step(
     requires won { winner solution.now vertex ≡ Odd }
     ensures { IsChosen product.now synth.now.game solution.now vertex state result.0 result.1 }
 {
-    // asked for what its contract says of the game
+    // called only for what its contract says about the game
     let _count = synth.game.len();
     let answer = solution.choice(vertex).unwrap();
     let letter = synth.game.identifier(answer) - first_answer(product, state);
@@ -72,7 +72,7 @@ fn number_of(v: Vertex) -> u32
     v.0
 }
 
-/// The set of one number.
+/// Returns the set of one number.
 fn starting(alloc: Global, number: u32) -> Result<IndexSet<u32>, AllocError>
     ensures { IfOk result (λ set. set.keys ≡ number ∷ []) }
 {
@@ -81,7 +81,7 @@ fn starting(alloc: Global, number: u32) -> Result<IndexSet<u32>, AllocError>
     Ok(set)
 }
 
-/// The word in two parts.
+/// Returns the verdict that rejects the lasso of the word: its letters before `place` are the stem, and the others the cycle.
 fn lasso_of(alloc: Global, word: &[u32], place: usize) -> Result<Verdict, AllocError>
     requires { place ≤ length word.now }
     ensures { IfOk result (IsLasso word.now place) }
@@ -92,7 +92,7 @@ fn lasso_of(alloc: Global, word: &[u32], place: usize) -> Result<Verdict, AllocE
     Ok(Verdict::Rejected(stem, cycle))
 }
 
-/// The word of Odd's choices: it comes to a letter without a step, or to a vertex for the second time.
+/// Returns the word of Odd's choices as a verdict: the word reaches a letter without a step, or a vertex for the second time.
 pub(crate) fn refutation(
     alloc: Global,
     product: &Automaton,

@@ -1,4 +1,4 @@
--- What is found of a circuit that plays the environment: its inputs are the propositions that the controller sets, its outputs the others.
+-- Outcomes for a circuit that plays the environment: its inputs are the propositions that the controller sets, its outputs the others.
 use Rattle.std.specs.Prelude.{◌≡◌, ◌≢◌, ℕ, ◌<◌, List, [], All}
 use Rattle.pg_hoa_automaton.specs.Automata.{Automaton}
 use Rattle.pg_hoa_automaton.specs.Formulas.{Formula}
@@ -18,7 +18,7 @@ RefutesOn a condition circuit answers =
     HasOneRun circuit answers
     × ((word : ℕ → ℕ) → IsWordOf circuit (exchanged a.controllable) answers word → ¬ IsAccepted a condition word)
 
--- so it is whatever the controller's letters are
+-- the circuit refutes the automaton, whatever the controller's letters are
 abbrev pub IsRefutation : Automaton → Formula → Circuit → Type 0
 IsRefutation a condition circuit =
     (answers : ℕ → ℕ) → ((t : ℕ) → answers t < output_letters a) → RefutesOn a condition circuit answers
@@ -30,7 +30,7 @@ pub record IsAnswered (a : Automaton) (condition : Formula) (circuit : Circuit) 
   pub repeats : loop ≢ []
   pub accepts : (word : ℕ → ℕ) → IsWordOf circuit (exchanged a.controllable) (lasso stem loop) word → IsAccepted a condition word
 
--- what the outcome says, under a condition of the automaton's shape
+-- the outcome is right, under a condition of the automaton's shape
 abbrev pub Says : Automaton → Formula → Circuit → Outcome → Type 0
 Says a condition circuit Refutes = IsRefutation a condition circuit
 Says a condition circuit (Answered stem loop) = IsAnswered a condition circuit stem.items loop.items

@@ -1,4 +1,4 @@
-//! The counterpart of an automaton: it accepts the words that the automaton doesn't, and what one player sets is set by the other.
+//! The counterpart of an automaton: it accepts the words that the automaton doesn't, and each player sets the other's propositions.
 
 ghost use Rattle.std.specs.Prelude.{◌≡◌, ◌+◌, ◌*◌, ◌<◌, ◌≤◌, length, map, Some, IfOk, IfErr, OnOk};
 ghost use Rattle.pg_hoa_automaton.specs.Automata.{IsAutomaton, letters};
@@ -12,12 +12,13 @@ use pg_verify::{VerifyFault, store};
 use std::alloc::{AllocError, Global};
 use std::collections::BTreeMap;
 
-/// The most states of an automaton, and the most places of its table.
+/// The limit on the states of an automaton.
 const MOST_STATES: u32 = 65_535;
 
+/// The limit on the places of an automaton's table.
 const MOST_STEPS: u32 = 16_777_216;
 
-/// The shape whose conditions are true where those of this one are false.
+/// Returns the shape whose conditions are true where the conditions of this one are false.
 fn opposite(shape: Shape) -> Shape
     ensures { result ≡ opposite shape }
 {
@@ -31,7 +32,7 @@ fn opposite(shape: Shape) -> Shape
     }
 }
 
-/// Over how many sets it is.
+/// Returns the number of sets of the opposite shape.
 fn opposite_sets(shape: Shape, sets: u32) -> u32
     ensures { result ≡ opposite_sets shape sets }
 {
@@ -41,7 +42,7 @@ fn opposite_sets(shape: Shape, sets: u32) -> u32
     }
 }
 
-/// The sets that are met over and over where a run of the automaton ends.
+/// Returns the sets that the counterpart meets over and over where a run of the automaton ends.
 fn end_sets(shape: Shape, sets: u32) -> &'static [u32]
     ensures { result.now ≡ end_sets shape sets }
 {
@@ -53,7 +54,7 @@ fn end_sets(shape: Shape, sets: u32) -> &'static [u32]
     }
 }
 
-/// The names of the propositions.
+/// Returns the names of the propositions.
 fn names_of(alloc: Global, automaton: &Automaton) -> Result<Vec<Vec<u8>>, AllocError>
     ensures { IfOk result (λ names. map (λ v. v.items) names.items ≡ automaton.now.propositions) }
 {
@@ -64,7 +65,7 @@ fn names_of(alloc: Global, automaton: &Automaton) -> Result<Vec<Vec<u8>>, AllocE
     Ok(names)
 }
 
-/// For each proposition, whether the controller doesn't set it.
+/// Returns, for each proposition, whether the controller doesn't set it.
 fn exchanged(alloc: Global, automaton: &Automaton) -> Result<Vec<bool>, AllocError>
     requires { IsAutomaton automaton.now }
     ensures { IfOk result (λ list. list.items ≡ exchanged automaton.now.controllable) }
@@ -76,17 +77,17 @@ fn exchanged(alloc: Global, automaton: &Automaton) -> Result<Vec<bool>, AllocErr
     Ok(list)
 }
 
-/// Slots of steps, and what they stand for.
+/// Slots of steps, and the steps and lists that they stand for.
 #[derive(Drop)]
 struct Draft {
     slots: Vec<u32>,
     steps: Vec<Stored>,
     lists: Vec<Vec<u32>>,
-    /// Places of lists that may be known.
+    /// Proposals for the places of lists.
     known: BTreeMap<Vec<u32>, u32>,
 }
 
-/// The slot of a step, if that at the end has this one.
+/// Returns the slot of a step, where `end` is the slot of the step at the automaton's end.
 fn slot_for(
     alloc: Global,
     automaton: &Automaton,
@@ -122,7 +123,7 @@ fn slot_for(
     }
 }
 
-/// The automaton's steps, and those at its end, state by state and letter by letter.
+/// Returns the automaton's steps, and the steps at its end, state by state and letter by letter.
 fn filled(alloc: Global, automaton: &Automaton, width: u32) -> Result<Draft, AllocError>
     requires automaton { IsAutomaton automaton.now }
     requires width { width ≡ letters automaton.now }
@@ -159,8 +160,8 @@ fn filled(alloc: Global, automaton: &Automaton, width: u32) -> Result<Draft, All
     Ok(draft)
 }
 
-/// The counterpart. It has a state more than the automaton; `TooLarge` says that this would be over the limits of automata: 65,535 states,
-/// and 16,777,216 states times letters.
+/// Makes the counterpart of an automaton, which has one state more. It fails with `TooLarge` if that would be over the limits of
+/// automata: 65,535 states, and 16,777,216 states times letters. It fails with `OutOfMemory` if memory runs out.
 pub fn counterpart(alloc: Global, automaton: &Automaton) -> Result<Automaton, VerifyFault>
     ensures counterpart { IfOk result (IsCounterpart automaton.now) }
     ensures refused { IfErr result (IsRefused automaton.now) }

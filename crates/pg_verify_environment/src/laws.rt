@@ -1,8 +1,8 @@
-//! Laws over the definitions. Their functions take no memory and do nothing: their contracts are what they are for.
+//! Laws that follow from the definitions. Each function states one in its contract, takes no memory and does nothing.
 
 ghost use Rattle.pg_verify_environment.specs.Laws.{CounterpartDecides};
 
-/// An automaton and its counterpart accept different words, and each word is accepted by one of them.
+/// Each word is accepted by exactly one of an automaton and its counterpart.
 pub fn counterpart_decides()
     ensures { CounterpartDecides }
 {}

@@ -1,5 +1,5 @@
-//! Circuits that play the environment: does an automaton refuse each of their runs? A circuit does if the automaton's counterpart, which
-//! accepts the other words and has the propositions in the other hands, accepts each of its runs.
+//! Circuits that play the environment: does an automaton refuse each of their runs? It does if the automaton's counterpart, which accepts
+//! the other words and exchanges the players' propositions, accepts each of these runs.
 #![tactic(auto)]
 
 mod exchanging;

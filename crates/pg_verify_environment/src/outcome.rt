@@ -1,4 +1,4 @@
-//! What is found of a circuit that plays the environment.
+//! Outcomes for circuits that play the environment.
 
 ghost use Rattle.std.specs.Prelude.{◌≡◌};
 ghost use Rattle.pg_hoa_automaton.specs.Automata.{Automaton, IsAutomaton};
@@ -12,16 +12,17 @@ ghost use Rattle.pg_verify_environment.specs.Environments.{Says};
 
 use pg_verify::Verdict;
 
-/// Whether the automaton refuses what the circuit makes of every endless word of the controller's, and if not, a word that it accepts.
+/// Whether the automaton refuses the circuit's run on every endless word of the controller's letters, and if not, such a word on which it
+/// accepts the run.
 #[derive(Debug, Drop)]
 pub enum Outcome {
-    /// It does.
+    /// The automaton refuses every run.
     Refutes,
-    /// These letters of the controller's, and then those of the second list over and over: the run is accepted.
+    /// The automaton accepts the run on the first of these letters of the controller, followed by the second ones repeated for ever.
     Answered(Vec<u32>, Vec<u32>),
 }
 
-/// What the verdict on a circuit and an automaton's counterpart says of the circuit and the automaton.
+/// Returns the outcome for a circuit and an automaton, from the verdict on the circuit and the automaton's counterpart.
 pub fn outcome_of(verdict: Verdict) -> Outcome
     ensures { (a c : Automaton) (condition : Formula) (circuit : Circuit) → IsAutomaton a → IsCounterpart a c → IsAcyclic circuit
         → FitsShape condition a.sets a.shape
@@ -30,7 +31,7 @@ pub fn outcome_of(verdict: Verdict) -> Outcome
     match verdict {
         Verdict::Accepted => Outcome::Refutes,
         Verdict::Rejected(stem, round) => Outcome::Answered(stem, round),
-        // never: a counterpart has a step for each letter
+        // this never happens: a counterpart has a step for each letter
         Verdict::Stuck(_) => Outcome::Refutes,
     }
 }

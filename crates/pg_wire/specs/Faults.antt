@@ -1,9 +1,9 @@
--- The numbers by which a report names the faults of a frame.
+-- The numbers that reports use for the faults of a frame.
 use Rattle.std.specs.Prelude.{ℕ}
 use Rattle.pg_wire.specs.declared.fault.WireFault.{WireFault}
 use Rattle.pg_wire.specs.declared.fault.WireFault.TheVariants.{OutOfMemory, TooLong, Truncated, BadKind, BadField, Read, Write, Version}
 
--- the code of a report is ten more
+-- the code in a report is this number plus 10
 abbrev pub number_of : WireFault → ℕ
 number_of OutOfMemory = 1
 number_of TooLong = 2

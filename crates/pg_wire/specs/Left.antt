@@ -10,7 +10,7 @@ pub record IsLeft (r : ValuesReader) (ms : List Measured) : Type 0 where
   pub measures : All (IsMeasured r.width) ms
   pub spelled : r.bytes.now ≡ flat_map (spelled_as r.kind) ms
 
--- what a vertex's measure leaves in the row, and whether it is top
+-- the row after a vertex's measure was read into it, and whether the measure is top
 abbrev pub row_of : Option (List ℕ) → List ℕ → List ℕ
 row_of (Some list) row = list
 row_of None row = row

@@ -5,7 +5,7 @@ use Rattle.pg_wire.specs.declared.frame.VertexLine.{VertexLine}
 use Rattle.pg_wire.specs.declared.frame.Frame.{Frame}
 use Rattle.pg_wire.specs.declared.frame.Frame.TheVariants as frames
 
--- what a line says beside its successors, and the line of a head and successors
+-- a line without its successors, and the line of a head and successors
 abbrev pub head_of : VertexLine → LineHead
 head_of l = record { vertex = l.vertex; priority = l.priority; owner = l.owner }
 

@@ -6,7 +6,7 @@ use Rattle.pg_wire.specs.declared.lines_writer.VerticesWriter.{VerticesWriter}
 use Rattle.pg_wire.specs.Spelling.{line, body, longest}
 use Rattle.pg_wire.specs.Lines.{frame_with}
 
--- the buffer has what was there before the frame, room for the frame's front, and then these lines
+-- the buffer has its contents from before the frame, room for the bytes before the lines, and then these lines
 pub record AreWriting (w : VerticesWriter) (before : List ℕ) (ls : List VertexLine) (buffer : List ℕ) : Type 0 where
   pub start : w.start ≡ length before
   pub count : w.count ≡ length ls
@@ -15,7 +15,7 @@ pub record AreWriting (w : VerticesWriter) (before : List ℕ) (ls : List Vertex
   pub front_size : length front ≡ 9
   pub whole : buffer ≡ before ++ (front ++ flat_map line ls)
 
--- one more line: it stands behind the others, or with it the frame would be too long, and then nothing has changed
+-- one more line: it is appended to the others, or the frame would be too long with it, and then nothing has changed
 abbrev pub IsLineAdded : Bool → VerticesWriter → VerticesWriter → List ℕ → List VertexLine → VertexLine → List ℕ → List ℕ → Type 0
 IsLineAdded fits old new before ls l buffer buffer' =
     MatchBool fits (AreWriting new before (ls ++ l ∷ []) buffer')

@@ -14,7 +14,7 @@ use Rattle.pg_wire.specs.Well.{IsWord, IsComponents}
 abbrev pub Measured : Type 0
 Measured = ℕ × Option (List ℕ)
 
--- as many components as the width says
+-- the measure has as many components as the width says
 pub record IsMeasured (width : ℕ) (m : Measured) : Type 0 where
   pub vertex : IsWord m.0
   pub list : IfSome m.1 (IsComponents width)
@@ -27,12 +27,12 @@ nonzero_from at (n ∷ ns) = if n == 0 then nonzero_from (at + 1) ns else (at, n
 abbrev pub nonzero : List ℕ → List (ℕ × ℕ)
 nonzero ns = nonzero_from 0 ns
 
--- the number of the pair of this place, or 0
+-- the number of the pair with this place, or 0
 abbrev pub component_in : List (ℕ × ℕ) → ℕ → ℕ
 component_in [] k = 0
 component_in (p ∷ ps) k = if p.0 == k then p.1 else component_in ps k
 
--- the list of so many components that these pairs tell
+-- the list of `width` components that these pairs describe
 abbrev pub filled : ℕ → List (ℕ × ℕ) → List ℕ
 filled width ps = map (component_in ps) (range_with_len 0 width)
 
@@ -42,7 +42,7 @@ dense_value m = record { vertex = m.0; list = m.1 }
 abbrev pub sparse_form : Measured → SparseValue
 sparse_form m = record { vertex = m.0; pairs = option_map nonzero m.1 }
 
--- the measures that values tell
+-- the measures that values give
 abbrev pub told_values : List Value → List Measured
 told_values vs = map (λ v. (v.vertex, v.list)) vs
 

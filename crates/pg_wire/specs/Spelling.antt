@@ -8,11 +8,11 @@ use Rattle.pg_wire.specs.declared.frame.SparseValue.{SparseValue}
 use Rattle.pg_wire.specs.declared.frame.Frame.{Frame}
 use Rattle.pg_wire.specs.declared.frame.Frame.TheVariants as frames
 
--- a number in four bytes, the highest first
+-- a number in four bytes, the most significant one first
 abbrev pub word : ℕ → List ℕ
 word n = to_be_bytes w32 n
 
--- how many there are, and then each
+-- the number of items, and then each item
 abbrev pub counted : {A : Type 0} → (A → List ℕ) → List A → List ℕ
 counted spelled xs = word (length xs) ++ flat_map spelled xs
 
@@ -28,7 +28,7 @@ abbrev pub tagged : {A : Type 0} → (A → List ℕ) → Option A → List ℕ
 tagged spelled (Some x) = 0 ∷ spelled x
 tagged spelled None = 1 ∷ []
 
--- the width of its frame says how many numbers the list has
+-- the frame's width says how many numbers the list has
 abbrev pub value : Value → List ℕ
 value v = word v.vertex ++ tagged (flat_map word) v.list
 
@@ -45,10 +45,10 @@ body (frames.Report r) = 5 ∷ r.status ∷ r.code ∷ []
 body frames.Halt = 6 ∷ []
 body (frames.Sparse s) = 7 ∷ (word s.width ++ counted sparse_value s.values)
 
--- the length, which counts the bytes after it, and then these
+-- the length, which counts the bytes after it, and then those bytes
 abbrev pub spelling : Frame → List ℕ
 spelling f = word (length (body f)) ++ body f
 
--- the limit of the length
+-- the greatest length
 abbrev pub longest : ℕ
 longest = 16777216

@@ -16,7 +16,7 @@ use Rattle.pg_wire.specs.declared.frame.Frame.TheVariants as frames
 abbrev pub IsWord : ℕ → Type 0
 IsWord n = n < 2 ^ 32
 
--- four bytes hold how many there are
+-- four bytes hold the number of items
 abbrev pub IsCountable : {A : Type 0} → List A → Type 0
 IsCountable xs = IsWord (length xs)
 
@@ -27,7 +27,7 @@ pub record IsBound (p : ℕ × ℕ) : Type 0 where
   pub some : 1 ≤ p.1
   pub bound : IsWord p.1
 
--- priorities that fall
+-- priorities in falling order
 pub record AreBounds (ps : List (ℕ × ℕ)) : Type 0 where
   pub countable : IsCountable ps
   pub bounds : All IsBound ps
@@ -53,7 +53,7 @@ pub record IsVertices (v : Vertices) : Type 0 where
   pub lines : All IsVertexLine v.lines
   pub rising : AllPairs (λ l m. l.vertex < m.vertex) v.lines
 
--- as many numbers as the width says
+-- the list has as many numbers as the width says
 pub record IsComponents (width : ℕ) (ns : List ℕ) : Type 0 where
   pub size : length ns ≡ width
   pub numbers : All IsWord ns
@@ -74,7 +74,7 @@ pub record IsPlace (width : ℕ) (p : ℕ × ℕ) : Type 0 where
   pub some : 1 ≤ p.1
   pub number : IsWord p.1
 
--- places that rise
+-- places in rising order
 pub record ArePlaces (width : ℕ) (ps : List (ℕ × ℕ)) : Type 0 where
   pub size : length ps ≤ width
   pub places : All (IsPlace width) ps
@@ -90,7 +90,7 @@ pub record IsSparse (s : Sparse) : Type 0 where
   pub values : All (IsSparseValue s.width) s.values
   pub rising : AllPairs (λ x y. x.vertex < y.vertex) s.values
 
--- 1 to 4 name a fault of a worker, 11 to 18 one of a frame
+-- 1 to 4 are faults of a worker, 11 to 18 faults of a frame
 abbrev pub IsFaultCode : ℕ → Type 0
 IsFaultCode code = ((1 ≤ code) × (code ≤ 4)) ⊎ ((11 ≤ code) × (code ≤ 18))
 

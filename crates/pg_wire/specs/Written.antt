@@ -5,7 +5,7 @@ use Rattle.pg_wire.specs.declared.writer.ValuesWriter.{ValuesWriter}
 use Rattle.pg_wire.specs.Spelling.{body, longest}
 use Rattle.pg_wire.specs.Measured.{Measured, spelled_as, frame_of}
 
--- the buffer has what was there before the frame, room for the frame's front, and then these measures
+-- the buffer has its contents from before the frame, room for the bytes before the measures, and then these measures
 pub record IsWriting (w : ValuesWriter) (before : List ℕ) (ms : List Measured) (buffer : List ℕ) : Type 0 where
   pub start : w.start ≡ length before
   pub count : w.count ≡ length ms
@@ -14,7 +14,7 @@ pub record IsWriting (w : ValuesWriter) (before : List ℕ) (ms : List Measured)
   pub front_size : length front ≡ 13
   pub whole : buffer ≡ before ++ (front ++ flat_map (spelled_as w.kind) ms)
 
--- one more measure: it stands behind the others, or with it the frame would be too long, and then nothing has changed
+-- one more measure: it is appended to the others, or the frame would be too long with it, and then nothing has changed
 abbrev pub IsAdded : Bool → ValuesWriter → ValuesWriter → List ℕ → List Measured → Measured → List ℕ → List ℕ → Type 0
 IsAdded fits old new before ms m buffer buffer' =
     MatchBool fits (IsWriting new before (ms ++ m ∷ []) buffer')

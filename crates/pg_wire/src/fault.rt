@@ -8,7 +8,7 @@ use thiserror::Error;
 /// Why a frame can't be read or written.
 #[derive(Clone, Copy, Debug, PartialEq, Eq, Error)]
 pub enum WireFault {
-    /// A growth was refused.
+    /// The allocator refused to grow a buffer.
     #[error("out of memory")]
     OutOfMemory,
     /// The frame has more than 16,777,216 bytes after its length.
@@ -20,8 +20,8 @@ pub enum WireFault {
     /// No frame has this kind, or there is no kind.
     #[error("no frame has this kind")]
     BadKind,
-    /// A field is out of its range or order, or runs past the end of the frame, or bytes follow the last field. The
-    /// offset counts bytes from the first one of the length.
+    /// A field is out of its range or order, or runs past the end of the frame, or bytes follow the last field. The offset
+    /// counts bytes from the first byte of the length.
     #[error("bad field at byte {0}")]
     BadField(usize),
     /// The reader failed.
@@ -36,7 +36,7 @@ pub enum WireFault {
 }
 
 impl WireFault {
-    /// The number of the fault, from 1 to 8. The code in a report of this fault is this number plus 10.
+    /// Returns the number of the fault, from 1 to 8. The code in a report of this fault is this number plus 10.
     pub fn number(&self) -> u8
         ensures { result ≡ number_of self.now }
     {
@@ -56,18 +56,18 @@ impl WireFault {
 /// What is wrong with a field.
 #[derive(Clone, Copy)]
 pub enum FieldFault {
-    /// So many bytes were left where the field begins.
+    /// This number of bytes was left where the field begins.
     At(usize),
-    /// It names no version of the format.
+    /// The field isn't a version of the format.
     Version,
-    /// It names no kind of frame.
+    /// The field isn't a kind of frame.
     Kind,
 }
 
 /// Why a field wasn't read.
 #[derive(Clone, Copy)]
 pub enum ReadFault {
-    /// A growth was refused.
+    /// The allocator refused to grow a buffer.
     Memory,
     /// The field is bad.
     Field(FieldFault),

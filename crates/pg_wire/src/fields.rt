@@ -1,4 +1,4 @@
-//! Reads the fields that are a number.
+//! Reads the fields that are numbers.
 ghost use Rattle.std.specs.Prelude.{◌≡◌, ◌+◌, ◌≤◌, ◌<◌, ◌^◌, length, IfOk, OnErr};
 ghost use Rattle.pg_wire.specs.Mirrors.Reading.{Yields, within_at, odd_at, byte_at, version_at, code_at};
 ghost use Rattle.pg_wire.specs.Mirrors.Formats.{place};
@@ -6,10 +6,10 @@ ghost use Rattle.pg_wire.specs.Mirrors.Formats.{place};
 use crate::fault::FieldFault;
 use byteorder::{BigEndian, ByteOrder};
 
-/// One more than the greatest number of four bytes.
+/// One more than the greatest four-byte number.
 pub const WORDS: u64 = 4_294_967_296;
 
-/// A number from `low` on, below `high`.
+/// Reads a four-byte number from `low` on and below `high`.
 #[tactic(auto, unfolding(crate::specs::Mirrors::Reading::within_at))]
 #[inline(always)]
 pub fn within(low: u64, high: u64, bytes: &[u8]) -> Result<(u32, &[u8]), FieldFault>
@@ -30,7 +30,7 @@ pub fn within(low: u64, high: u64, bytes: &[u8]) -> Result<(u32, &[u8]), FieldFa
     }
 }
 
-/// An odd number below `high`.
+/// Reads an odd four-byte number below `high`.
 #[tactic(auto, unfolding(crate::specs::Mirrors::Reading::odd_at))]
 pub fn odd(high: u64, bytes: &[u8]) -> Result<(u32, &[u8]), FieldFault>
     ensures { Yields (λ x. (x.0, x.1.now)) result (odd_at high bytes.now) }
@@ -43,7 +43,7 @@ pub fn odd(high: u64, bytes: &[u8]) -> Result<(u32, &[u8]), FieldFault>
     }
 }
 
-/// A place from `at` on, below the width, and the number there, which isn't 0.
+/// Reads a place from `at` on and below the width, and the number there, which isn't 0.
 #[tactic(auto, unfolding(crate::specs::Mirrors::Formats::place))]
 #[inline(always)]
 pub fn pair(width: u32, at: u64, bytes: &[u8]) -> Result<((u32, u32), &[u8]), FieldFault>
@@ -56,7 +56,7 @@ pub fn pair(width: u32, at: u64, bytes: &[u8]) -> Result<((u32, u32), &[u8]), Fi
     Ok(((place, n), rest))
 }
 
-/// A byte below `high`.
+/// Reads a byte below `high`.
 #[tactic(auto, unfolding(crate::specs::Mirrors::Reading::byte_at))]
 #[inline(always)]
 pub fn byte(high: u8, bytes: &[u8]) -> Result<(u8, &[u8]), FieldFault>
@@ -75,7 +75,7 @@ pub fn byte(high: u8, bytes: &[u8]) -> Result<(u8, &[u8]), FieldFault>
     }
 }
 
-/// The version of a set-up, 1 or 2.
+/// Reads the version of a set-up, 1 or 2.
 #[tactic(auto, unfolding(crate::specs::Mirrors::Reading::version_at))]
 pub fn version(bytes: &[u8]) -> Result<(u8, &[u8]), FieldFault>
     ensures { Yields (λ x. (x.0, x.1.now)) result (version_at bytes.now) }
@@ -92,7 +92,7 @@ pub fn version(bytes: &[u8]) -> Result<(u8, &[u8]), FieldFault>
     }
 }
 
-/// The code of a report with this status.
+/// Reads the code of a report with this status.
 #[tactic(auto, unfolding(crate::specs::Mirrors::Reading::code_at))]
 pub fn code(status: u8, bytes: &[u8]) -> Result<(u8, &[u8]), FieldFault>
     ensures { Yields (λ x. (x.0, x.1.now)) result (code_at status bytes.now) }

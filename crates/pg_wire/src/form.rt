@@ -1,4 +1,4 @@
-//! Lists of items that are spelled one after the other.
+//! Lists of items that are spelled one after another.
 ghost use Rattle.std.specs.Prelude.{◌≡◌, ℕ, ◌↔◌, IsTrue, IfOk, vec_capacity};
 ghost use Rattle.pg_wire.specs.Mirrors.Reading.{Yields, Gives, made, skipped};
 ghost use Rattle.pg_wire.specs.Mirrors.Formats.{Kind, AreItems, so_many, listed};
@@ -9,7 +9,7 @@ use crate::fields::within;
 use crate::list::Items;
 use std::alloc::Global;
 
-/// A kind of item. Each stands at a place, which the one before it sets.
+/// A kind of item. Each item has a place, which the item before it sets.
 pub trait Form {
     type Item: Drop;
 
@@ -24,7 +24,7 @@ pub trait Form {
     ) -> Result<(Self::Item, &[u8]), ReadFault>
         ensures { Gives (λ x. (x.0, x.1.now)) result ((kind width).read place bytes.now) };
 
-    /// The place that the next item sets, and the bytes after it. It takes no memory.
+    /// Returns the place that the next item gets, and the bytes after this item. It takes no memory.
     fn skip(width: u32, place: u64, bytes: &[u8]) -> Result<(u64, &[u8]), FieldFault>
         ensures { Yields (λ x. (x.0, x.1.now)) result (made (kind width).next ((kind width).read place) bytes.now) };
 
@@ -37,7 +37,7 @@ pub trait Form {
     ghost steps: { (width : ℕ) → Steps (kind width).Stands (kind width).Precedes (kind width).next };
 }
 
-/// Reads so many items. It takes memory for all of them at once: the caller has found that the bytes spell so many.
+/// Reads `count` items. It reserves memory for all of them at once: the caller has found that the bytes spell that many.
 pub fn items<F: Form>(
     alloc: Global,
     width: u32,
@@ -60,7 +60,7 @@ pub fn items<F: Form>(
     Ok((items, rest))
 }
 
-/// The bytes after so many items. It takes no memory.
+/// Returns the bytes after `count` items. It takes no memory.
 #[inline(always)]
 pub fn skip_items<F: Form>(
     width: u32,
@@ -80,7 +80,7 @@ pub fn skip_items<F: Form>(
     Ok(rest)
 }
 
-/// The bytes after a count, from `least` on and below `high`, and as many items. It takes no memory.
+/// Returns the bytes after a count, from `least` on and below `high`, and that many items. It takes no memory.
 #[tactic(auto, unfolding(crate::specs::Mirrors::Reading::counted_at))]
 #[inline(always)]
 pub fn skip_counted<F: Form>(
@@ -96,7 +96,7 @@ pub fn skip_counted<F: Form>(
     skip_items::<F>(width, count, place, rest)
 }
 
-/// How many items, from `least` on and below `high`, and then each.
+/// Reads a count, from `least` on and below `high`, and then that many items.
 #[tactic(auto, unfolding(crate::specs::Mirrors::Reading::counted_at))]
 pub fn counted<F: Form>(
     alloc: Global,
@@ -113,8 +113,7 @@ pub fn counted<F: Form>(
     Ok((Items::new(items), rest))
 }
 
-/// Whether each item is in its ranges, and the first one stands at the place, and each other one
-/// after the one before it.
+/// Whether each item is in its ranges, the first one fits at the place, and each other one fits after the one before it.
 pub fn are_ordered<F: Form>(width: u32, place: u64, items: &[F::Item]) -> bool
     ensures { IsTrue result ↔ AreItems (F.kind width) place items.now }
 {

@@ -11,7 +11,7 @@ use crate::frame::{LineHead, SparseValue, Value, VertexLine};
 use crate::list::Items;
 use std::alloc::Global;
 
-/// The successors of a vertex, which rise.
+/// The successors of a vertex, in rising order.
 pub struct SuccessorForm;
 
 impl Form for SuccessorForm {
@@ -43,7 +43,7 @@ impl Form for SuccessorForm {
     ghost steps = { λ _. rising (λ n. n) };
 }
 
-/// Priorities that fall, each with its bound.
+/// Priorities in falling order, each with its bound.
 pub struct BoundForm;
 
 impl Form for BoundForm {
@@ -113,7 +113,7 @@ impl Form for ComponentForm {
     ghost steps = { λ _. in_any_order };
 }
 
-/// Places below the width, which rise, each with its number.
+/// Places below the width in rising order, each with its number.
 pub struct PlaceForm;
 
 impl Form for PlaceForm {
@@ -151,8 +151,7 @@ impl Form for PlaceForm {
     ghost steps = { λ _. rising (λ p. p.0) };
 }
 
-/// What stands before the successors of a line, whose vertex is from a place on: its head, and how many successors
-/// there are.
+/// Reads the head of a line, whose vertex is at least `place`, and the number of its successors.
 #[tactic(auto, unfolding(crate::specs::Mirrors::Formats::line_head))]
 #[inline(always)]
 pub fn head(place: u64, bytes: &[u8]) -> Result<(LineHead, u32, &[u8]), FieldFault>
@@ -171,7 +170,7 @@ pub fn head(place: u64, bytes: &[u8]) -> Result<(LineHead, u32, &[u8]), FieldFau
     Ok((head, count, rest))
 }
 
-/// The lines of vertices, which rise.
+/// The lines of vertices, by rising vertex.
 pub struct LineForm;
 
 impl Form for LineForm {
@@ -225,7 +224,7 @@ impl Form for LineForm {
     ghost steps = { λ _. rising (λ l. l.vertex) };
 }
 
-/// Reads the vertex of a measure, which is from a place on, and the tag after it: 0 if a list follows, 1 for top.
+/// Reads the vertex of a measure, which is at least `place`, and the tag after it: 0 if a list follows, 1 for top.
 #[inline(always)]
 pub fn value_head(place: u64, bytes: &[u8]) -> Result<(u32, u8, &[u8]), FieldFault>
     ensures read { Yields (λ x. ((x.0, x.1), x.2.now)) result (both (within_at place (2 ^ 32)) (λ _. byte_at 2) bytes.now) }
@@ -236,14 +235,14 @@ pub fn value_head(place: u64, bytes: &[u8]) -> Result<(u32, u8, &[u8]), FieldFau
     Ok((vertex, tag, rest))
 }
 
-/// Whether a list has a number for each place of the width.
+/// Whether a list has one number for each place of the width.
 fn are_components(width: u32, numbers: &[u32]) -> bool
     ensures { IsTrue result ↔ IsComponents width numbers.now }
 {
     numbers.len() == width as usize && are_ordered::<ComponentForm>(width, 0, numbers)
 }
 
-/// The measures of vertices, which rise.
+/// The measures of vertices, by rising vertex.
 pub struct ValueForm;
 
 impl Form for ValueForm {
@@ -303,7 +302,7 @@ fn are_places(width: u32, pairs: &[(u32, u32)]) -> bool
     pairs.len() <= width as usize && are_ordered::<PlaceForm>(width, 0, pairs)
 }
 
-/// The measures of vertices, which rise, by the components that aren't 0.
+/// The measures of vertices, by rising vertex, given by the components that aren't 0.
 pub struct SparseValueForm;
 
 impl Form for SparseValueForm {

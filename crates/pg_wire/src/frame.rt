@@ -7,13 +7,13 @@ use crate::list::{Items, Numbers, Pairs};
 pub struct Setup {
     /// The version of the wire format, 1 or 2.
     pub version: u8,
-    /// How many vertices the game has, 1 to 1,048,576.
+    /// The number of vertices of the game, 1 to 1,048,576.
     pub vertices: u32,
-    /// Each odd priority that occurs (at most 65,535), falling, with how many vertices have it.
+    /// Each odd priority that occurs (at most 65,535), in falling order, with the number of vertices that have it.
     pub bounds: Pairs,
 }
 
-/// One of a worker's vertices, as the worker needs to know it.
+/// One of a worker's vertices: the facts about it that the worker needs.
 #[derive(Drop)]
 pub struct VertexLine {
     pub vertex: u32,
@@ -35,7 +35,7 @@ pub struct LineHead {
     pub owner: u8,
 }
 
-/// Vertices for a worker's part, strictly rising.
+/// Vertices for a worker's part, in strictly rising order.
 #[derive(Drop)]
 pub struct Vertices {
     pub lines: Items<VertexLine>,
@@ -49,7 +49,7 @@ pub struct Value {
     pub list: Option<Numbers>,
 }
 
-/// The measures of some vertices, which rise strictly.
+/// The measures of some vertices, by strictly rising vertex.
 #[derive(Drop)]
 pub struct Values {
     /// At most 32,768.
@@ -57,15 +57,15 @@ pub struct Values {
     pub values: Items<Value>,
 }
 
-/// A vertex and its measure, as the components that aren't 0; None is top.
+/// A vertex and its measure, given by the components that aren't 0; None is top.
 #[derive(Drop)]
 pub struct SparseValue {
     pub vertex: u32,
-    /// For each such component its place, below the frame's width, and the component. The places rise strictly.
+    /// For each component that isn't 0, its place, below the frame's width, and the component. The places rise strictly.
     pub pairs: Option<Pairs>,
 }
 
-/// The measures of some vertices, which rise strictly, as the components that aren't 0.
+/// The measures of some vertices, by strictly rising vertex, given by the components that aren't 0.
 #[derive(Drop)]
 pub struct Sparse {
     /// At most 32,768.
@@ -83,9 +83,9 @@ pub struct Go {
 /// Ends a worker's reply.
 #[derive(Clone, Copy)]
 pub struct Report {
-    /// 0: there is more to lift, 1: quiet, 2: refused.
+    /// 0: there is more to lift; 1: quiet; 2: refused.
     pub status: u8,
-    /// 0 for status 0 and 1. For 2 a fault: 1 to 4 of the worker, 11 to 18 of a frame.
+    /// 0 for status 0 and 1. For status 2, a fault: 1 to 4 for a worker's fault, 11 to 18 for a frame's.
     pub code: u8,
 }
 

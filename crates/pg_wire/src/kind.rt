@@ -1,17 +1,17 @@
-//! The kinds of frames that carry measures, and how many bytes a measure takes in them.
+//! The kinds of frames that carry measures, and the number of bytes that a measure takes in them.
 ghost use Rattle.std.specs.Prelude.{◌≡◌, ◌≢◌, ℕ, IsTrue, IsFalse, ◌≤◌, ◌+◌, ◌*◌, Some, None, length};
 ghost use Rattle.pg_wire.specs.Measured.{nonzero, spelled_as};
 
-/// The kinds of frames that carry measures.
+/// A kind of frame that carries measures.
 #[derive(Clone, Copy, Debug, PartialEq, Eq)]
 pub enum ValueKind {
-    /// `Values`, with every component.
+    /// `Values`, which has every component.
     Dense,
-    /// `Sparse`, with the components that aren't 0.
+    /// `Sparse`, which has the components that aren't 0.
     Sparse,
 }
 
-/// Whether `Sparse` lists a component.
+/// Whether `Sparse` lists this component.
 pub fn is_told(n: u32) -> bool
     ensures told { IsTrue result → n ≢ 0 }
     ensures untold { IsFalse result → n ≡ 0 }
@@ -19,7 +19,7 @@ pub fn is_told(n: u32) -> bool
     n != 0
 }
 
-/// The number of components that aren't 0.
+/// Returns the number of components that aren't 0.
 pub fn nonzero_len(list: &[u32]) -> usize
     ensures count { result ≡ length (nonzero list.now) }
     ensures few { result ≤ length list.now }
@@ -34,7 +34,8 @@ pub fn nonzero_len(list: &[u32]) -> usize
 }
 
 impl ValueKind {
-    /// The number of bytes for a vertex with this list.
+    /// Returns the number of bytes that a frame of this kind uses for a vertex with this list of components, which has at
+    /// most 32,768.
     pub fn list_size(self, list: &[u32]) -> usize
         requires { length list.now ≤ 32768 }
         ensures size { (vertex : ℕ) → result ≡ length (spelled_as self (vertex, Some list.now)) }
@@ -46,7 +47,7 @@ impl ValueKind {
         }
     }
 
-    /// The number of bytes for a vertex with top.
+    /// Returns the number of bytes that a frame of this kind uses for a vertex with top.
     pub fn top_size(self) -> usize
         ensures { (vertex : ℕ) → result ≡ length (spelled_as self (vertex, None)) }
     {

@@ -1,4 +1,4 @@
-//! Reads the lines of a frame of vertices one after the other, from its bytes.
+//! Reads the lines of a frame of vertices one after another, from its bytes.
 ghost use Rattle.std.specs.Prelude.{◌≡◌, ◌≢◌, ◌<◌, List, None, IfSome, IfOk, IfNone, OnErr, length};
 ghost use Rattle.pg_wire.specs.declared.frame.VertexLine.{VertexLine};
 ghost use Rattle.pg_wire.specs.Bytes.{Spells};
@@ -11,7 +11,7 @@ use crate::reader::read_numbers;
 use crate::reading::body_of;
 use std::alloc::AllocError;
 
-/// The lines of a frame of vertices that are left.
+/// Reads the lines that are left of a frame of vertices.
 #[derive(Clone, Copy)]
 pub struct VerticesReader<'a> {
     bytes: &'a [u8],
@@ -20,8 +20,8 @@ pub struct VerticesReader<'a> {
 impl<'a> VerticesReader<'a> {
     ghost use Rattle.pg_wire.specs.LinesLeft.{AreLeft, IsNextLine};
 
-    /// A reader of the lines in a frame of vertices, or None if the bytes, all of them, don't spell such a frame. It
-    /// takes no memory.
+    /// Returns a reader of the lines in a frame of vertices, or None if the bytes, all of them, don't spell such a frame.
+    /// It takes no memory.
     pub fn open(bytes: &'a [u8]) -> Option<VerticesReader<'a>>
         ensures found { IfSome result (λ r. (ls : List VertexLine) × Spells (frame_with ls) bytes.now × AreLeft r ls) }
         ensures all { (ls : List VertexLine) → Spells (frame_with ls) bytes.now → result ≢ None }
@@ -40,9 +40,9 @@ impl<'a> VerticesReader<'a> {
         }
     }
 
-    /// Reads the next line. Its successors replace what the vector held. None if no line is left. It fails only if
-    /// memory runs out, and takes memory only if the vector has too little room. If it returns None or fails, reader
-    /// and vector stay as they were.
+    /// Reads the next line and returns its head. Its successors replace the contents of the vector. Returns None if no line
+    /// is left. It fails only if memory runs out, and takes memory only if the vector has too little room. If it returns
+    /// None or fails, the reader and the vector stay as they were.
     pub fn next(&mut self, successors: &mut Vec<u32>) -> Result<Option<LineHead>, AllocError>
         ensures less { IfOk result (λ o. IfSome o (λ x. length self.new.bytes.now < length self.old.bytes.now)) }
         ensures next { (ls : List VertexLine) → AreLeft self.old ls

@@ -1,4 +1,4 @@
-//! Writes frames of vertices, one line after the other, into a buffer that the caller keeps.
+//! Writes frames of vertices, one line after another, into a buffer that the caller keeps.
 ghost use Rattle.std.specs.Prelude.{◌≡◌, ℕ, ◌+◌, ◌-◌, ◌*◌, ◌^◌, ◌<◌, ◌++◌, ◌∷◌, [], List, length, OnOk, OnErr, IfOk};
 ghost use Rattle.pg_wire.specs.declared.frame.VertexLine.{VertexLine};
 ghost use Rattle.pg_wire.specs.Spelling.{word, line, spelling, longest};
@@ -13,13 +13,13 @@ use crate::writer::put_numbers;
 use byteorder::{BigEndian, ByteOrder};
 use std::alloc::AllocError;
 
-/// How many bytes stand before the lines of a frame: its length, its kind and the count.
+/// The number of bytes before the lines of a frame: its length, its kind and the count.
 const FRONT: usize = 9;
 
-/// How many bytes stand before the successors of a line: the vertex, the priority, the owner and the count.
+/// The number of bytes before the successors of a line: the vertex, the priority, the owner and the count.
 const HEAD: usize = 13;
 
-/// A frame of vertices that is being written at the end of a buffer; its front is written last.
+/// A frame of vertices that is being written at the end of a buffer. The bytes before its lines are written last.
 #[derive(Drop)]
 pub struct VerticesWriter {
     start: usize,
@@ -36,7 +36,7 @@ fn put_front(count: u32, len: u32, front: &mut [u8])
     front.copy_from_slice(&bytes);
 }
 
-/// What stands before so many successors of a line.
+/// Appends the part of a line before its `count` successors.
 fn put_head(head: LineHead, count: u32, out: &mut Vec<u8>) -> Result<(), AllocError>
     ensures ok { OnOk result (out.new.items
         ≡ out.old.items ++ (word head.vertex ++ word head.priority ++ (head.owner ∷ word count))) }
@@ -49,7 +49,7 @@ fn put_head(head: LineHead, count: u32, out: &mut Vec<u8>) -> Result<(), AllocEr
     out.extend_from_slice(&bytes)
 }
 
-/// A line. Where memory runs out, some of it may stand in the buffer.
+/// Appends a line. If memory runs out, part of it may be in the buffer.
 fn put_line(head: LineHead, successors: &[u32], out: &mut Vec<u8>) -> Result<(), AllocError>
     requires { length successors.now < 2 ^ 32 }
     ensures ok { OnOk result (out.new.items ≡ out.old.items ++ line (line_with head successors.now)) }
@@ -62,7 +62,7 @@ fn put_line(head: LineHead, successors: &[u32], out: &mut Vec<u8>) -> Result<(),
 impl VerticesWriter {
     ghost use Rattle.pg_wire.specs.LinesWritten.{AreWriting, IsLineAdded};
 
-    /// Begins a frame at the end of the buffer. If memory runs out, the buffer stays as it was.
+    /// Begins a frame at the end of the buffer, and returns its writer. If memory runs out, the buffer stays as it was.
     pub fn begin(out: &mut Vec<u8>) -> Result<VerticesWriter, AllocError>
         ensures begun { IfOk result (λ w. AreWriting w out.old.items [] out.new.items) }
         ensures kept { OnErr result (out.new.items ≡ out.old.items) }
@@ -72,15 +72,15 @@ impl VerticesWriter {
         Ok(VerticesWriter { start, count: 0 })
     }
 
-    /// How many bytes more the frame may have.
+    /// Returns the number of bytes that the frame can still take.
     fn room(&self, out: &[u8]) -> usize
         ensures { result ≡ longest + 4 - (length out.now - self.now.start) }
     {
         (4 + LONGEST as usize).saturating_sub(out.len().saturating_sub(self.start))
     }
 
-    /// Appends a line. False if the frame would be longer than a frame may be. If it returns false or memory runs out,
-    /// writer and buffer stay as they were.
+    /// Appends a line. Returns false if the frame would get too long: more than 16,777,216 bytes after its length. If it
+    /// returns false or memory runs out, the writer and the buffer stay as they were.
     pub fn push(
         &mut self,
         head: LineHead,

@@ -3,7 +3,7 @@ ghost use Rattle.std.specs.Prelude.{◌≡◌};
 
 use std::marker::Model;
 
-/// Items in a row. Contracts see the list of them.
+/// A list of items. Contracts see the list itself.
 #[derive(Drop)]
 pub struct Items<T> {
     items: Vec<T>,
@@ -18,21 +18,21 @@ impl<T> Model for Items<T> {
 }
 
 impl<T> Items<T> {
-    /// The items of a vector, in order.
+    /// Makes a list of the items of a vector, in order.
     pub fn new(items: Vec<T>) -> Items<T>
         ensures { result ≡ items.items }
     {
         Items { items }
     }
 
-    /// The items, in order.
+    /// Returns the items, in order.
     pub fn as_slice(&self) -> &[T]
         ensures { result.now ≡ self.now }
     {
         self.items.as_slice()
     }
 
-    /// The vector of the items.
+    /// Returns the vector of the items, in order.
     pub fn into_items(self) -> Vec<T>
         ensures { result.items ≡ self }
     {
@@ -40,7 +40,7 @@ impl<T> Items<T> {
     }
 }
 
-/// Numbers, as the components of a value or the successors of a vertex.
+/// Numbers: the components of a measure or the successors of a vertex.
 pub type Numbers = Items<u32>;
 
 /// Pairs of numbers: odd priorities with their bounds, or places of components with the numbers there.

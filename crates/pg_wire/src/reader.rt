@@ -1,4 +1,4 @@
-//! Reads the measures of a frame one after the other, from its bytes, without taking memory.
+//! Reads the measures of a frame one after another, from its bytes, without taking memory.
 ghost use Rattle.std.specs.Prelude.{◌≡◌, ◌≢◌, ◌+◌, ◌*◌, ◌≤◌, ◌<◌, List, Some, None, IfSome, IfOk, OnErr, length, cond, true};
 ghost use Rattle.pg_wire.specs.declared.kind.ValueKind.{ValueKind};
 ghost use Rattle.pg_wire.specs.declared.frame.Frame.{Frame};
@@ -13,7 +13,7 @@ use crate::forms::value_head;
 use crate::kind::ValueKind;
 use crate::reading::body_of;
 
-/// The measures of a frame that are left.
+/// Reads the measures that are left of a frame.
 #[derive(Clone, Copy)]
 pub struct ValuesReader<'a> {
     kind: ValueKind,
@@ -21,7 +21,7 @@ pub struct ValuesReader<'a> {
     bytes: &'a [u8],
 }
 
-/// The next numbers, written into the row.
+/// Reads the next numbers into the row, one for each of its places, and returns the bytes after them.
 pub fn read_numbers<'a>(bytes: &'a [u8], row: &mut [u32]) -> Result<&'a [u8], FieldFault>
     ensures read { Yields (λ x. (row.new, x.now)) result ((all_components (length row.old)).read bytes.now) }
     ensures less { IfOk result (λ x. length x.now ≤ length bytes.now) }
@@ -36,7 +36,8 @@ pub fn read_numbers<'a>(bytes: &'a [u8], row: &mut [u32]) -> Result<&'a [u8], Fi
     Ok(rest)
 }
 
-/// The next pairs, whose numbers are written into the row at their places; at the others it gets 0.
+/// Reads the next `count` pairs, writes their numbers into the row at their places and 0 at all others, and returns the
+/// bytes after the pairs.
 fn read_places<'a>(
     width: u32,
     count: u32,
@@ -60,7 +61,7 @@ fn read_places<'a>(
     Ok(rest)
 }
 
-/// The next list, written into the row.
+/// Reads the next list into the row, and returns the bytes after it.
 #[tactic(auto, unfolding(crate::specs::Mirrors::Formats::measure, crate::specs::Mirrors::Reading::counted_at))]
 #[inline(always)]
 fn read_list<'a>(
@@ -82,7 +83,8 @@ fn read_list<'a>(
     }
 }
 
-/// The next vertex, whether its measure is top, and the bytes behind it; else the list is in the row.
+/// Reads the next vertex. Returns it, whether its measure is top, and the bytes after the measure. If the measure isn't
+/// top, its list is in the row.
 #[tactic(auto, unfolding(crate::specs::Mirrors::Formats::measured, crate::specs::Mirrors::Reading::headed_at))]
 #[inline(always)]
 fn read_value<'a>(
@@ -105,7 +107,7 @@ fn read_value<'a>(
     Ok((vertex, false, rest))
 }
 
-/// The kind of frames of measures that has this number.
+/// Returns the kind of frames of measures that has this number, if there is one.
 fn kind_of(number: u8) -> Option<ValueKind>
     ensures found { IfSome result (λ kind. kind_number kind ≡ number) }
     ensures all { (kind : ValueKind) → kind_number kind ≡ number → result ≢ None }
@@ -120,7 +122,7 @@ fn kind_of(number: u8) -> Option<ValueKind>
 impl<'a> ValuesReader<'a> {
     ghost use Rattle.pg_wire.specs.Left.{IsLeft, IsNext};
 
-    /// A reader of the measures in a frame, or None if the bytes, all of them, don't spell a frame of measures. It
+    /// Returns a reader of the measures in a frame, or None if the bytes, all of them, don't spell a frame of measures. It
     /// takes no memory.
     pub fn open(bytes: &'a [u8]) -> Option<ValuesReader<'a>>
         ensures found { IfSome result (λ r. (ms : List Measured) × Spells (frame_of r.kind r.width ms) bytes.now
@@ -142,22 +144,22 @@ impl<'a> ValuesReader<'a> {
         }
     }
 
-    /// The kind of the frame.
+    /// Returns the kind of the frame.
     pub fn kind(&self) -> ValueKind
         ensures { result ≡ self.now.kind }
     {
         self.kind
     }
 
-    /// The width of the frame, the length of each list in it.
+    /// Returns the width of the frame, which is the length of each list in it.
     pub fn width(&self) -> u32
         ensures { result ≡ self.now.width }
     {
         self.width
     }
 
-    /// Reads the next vertex, and returns it with true if its measure is top. If it isn't, the list is in the row,
-    /// which must have as many places as the width. None if no value is left. In that case, and for top, the row stays
+    /// Reads the next vertex, and returns it with true if its measure is top. If it isn't, the list is in the row, which
+    /// must have as many places as the width. Returns None if no measure is left. In that case, and for top, the row stays
     /// as it was.
     #[inline(always)]
     pub fn next(&mut self, row: &mut [u32]) -> Option<(u32, bool)>

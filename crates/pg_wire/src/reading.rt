@@ -17,10 +17,10 @@ use crate::frame::{Frame, Go, Report, Setup, Sparse, Values, Vertices};
 use byteorder::{BigEndian, ByteOrder};
 use std::alloc::Global;
 
-/// The limit of a frame's length, which counts the bytes after it.
+/// The greatest length of a frame. The length counts the bytes after it.
 pub const LONGEST: u32 = 16_777_216;
 
-/// The bytes after the length, where it counts all of them and is within the limit.
+/// Returns the bytes after the length if the length counts all of them and is within the limit, and None otherwise.
 pub fn after_length(bytes: &[u8]) -> Option<&[u8]>
     ensures found { IfSome result (λ rest. IsCounted bytes.now rest.now) }
     ensures none { IfNone result ((f : Frame) → Spells f bytes.now → ⊥) }
@@ -172,7 +172,7 @@ fn frame_of_body(alloc: Global, bytes: &[u8]) -> Result<Frame, ReadFault>
     }
 }
 
-/// The frame of which these bytes, those after a length, are the body.
+/// Reads the frame whose body is these bytes, the ones after its length.
 fn from_body(alloc: Global, bytes: &[u8]) -> Result<Frame, WireFault>
     ensures found { IfOk result (λ f. (bytes.now ≡ body f) × IsWell f) }
     ensures all { (f : Frame) → IsWell f → bytes.now ≡ body f → (result ≡ Ok f) ⊎ (result ≡ Err OutOfMemory) }
@@ -191,15 +191,14 @@ fn from_body(alloc: Global, bytes: &[u8]) -> Result<Frame, WireFault>
     }
 }
 
-/// Reads the frame that the bytes spell, all of them. It takes no more memory than the bytes can fill, even if they are
+/// Reads the frame that the bytes, all of them, spell. It takes no more memory than the bytes can fill, even if they are
 /// wrong.
 ///
 /// It returns the first of these faults: `Truncated` for fewer than four bytes; `TooLong` for a length of more than
-/// 16,777,216; `BadKind` for a length of 0; `Truncated` for fewer bytes than the length says; `BadField` at the first
-/// byte past what the length says; `BadKind` for an unknown kind; then, field by field, `Version` for the version of a
-/// set-up, and `BadField` for any other field that is out of its range or order or runs past the end; `BadField` at the
-/// first byte after the last field. Offsets count from the first byte of the length. `OutOfMemory` can come at any
-/// point.
+/// 16,777,216; `BadKind` for a length of 0; `Truncated` for fewer bytes than the length says; `BadField` at the first byte
+/// past what the length says; `BadKind` for an unknown kind; then, field by field, `Version` for the version of a set-up,
+/// and `BadField` for any other field that is out of its range or order or runs past the end; `BadField` at the first byte
+/// after the last field. Offsets count from the first byte of the length. `OutOfMemory` can come at any point.
 pub fn decode(alloc: Global, bytes: &[u8]) -> Result<Frame, WireFault>
     ensures found { IfOk result (λ f. Spells f bytes.now) }
     ensures all { (f : Frame) → Spells f bytes.now → (result ≡ Ok f) ⊎ (result ≡ Err OutOfMemory) }

@@ -12,10 +12,10 @@ use byteorder::{BigEndian, ByteOrder};
 use std::alloc::Global;
 use std::io::{ErrorKind, Read};
 
-/// How many bytes are asked for at first.
+/// The number of bytes to ask for at first.
 const CHUNK: usize = 4096;
 
-/// One read, tried again as long as it is interrupted.
+/// Reads once, and tries again as long as the read is interrupted. Returns the number of bytes read.
 fn read_some<R: Read>(input: &mut R, buffer: &mut [u8]) -> Result<usize, WireFault>
     ensures bound { IfOk result (λ n. n ≤ length buffer.new) }
     ensures bytes { IfOk result (λ n. Consumes (R.remaining input.old) (R.remaining input.new) (take n buffer.new)) }
@@ -35,7 +35,7 @@ fn read_some<R: Read>(input: &mut R, buffer: &mut [u8]) -> Result<usize, WireFau
     Err(WireFault::Read)
 }
 
-/// Fills the buffer, or as much of it as the input has, and says how much.
+/// Fills the buffer, or as much of it as the input has, and returns the number of bytes read.
 fn fill<R: Read>(input: &mut R, buffer: &mut [u8]) -> Result<usize, WireFault>
     ensures bound { IfOk result (λ n. n ≤ length buffer.new) }
     ensures bytes { IfOk result (λ n. Consumes (R.remaining input.old) (R.remaining input.new) (take n buffer.new)) }
@@ -54,7 +54,8 @@ fn fill<R: Read>(input: &mut R, buffer: &mut [u8]) -> Result<usize, WireFault>
     Ok(filled)
 }
 
-/// Appends so many bytes. It takes memory for them only as they come: at a time for as many as came, or for a chunk.
+/// Appends `len` bytes of the input. It takes memory for them only as they come: each time for at most as many as `bytes`
+/// already has, or for one chunk.
 fn read_body<R: Read>(input: &mut R, len: usize, bytes: &mut Vec<u8>) -> Result<(), WireFault>
     ensures bytes { OnOk result ((body : List ℕ) × (bytes.new.items ≡ bytes.old.items ++ body) × (length body ≡ len)
         × Consumes (R.remaining input.old) (R.remaining input.new) body) }
@@ -77,14 +78,14 @@ fn read_body<R: Read>(input: &mut R, len: usize, bytes: &mut Vec<u8>) -> Result<
     Ok(())
 }
 
-/// Reads the bytes of the next frame, its length and as many bytes as the length says, in place of those in `bytes`.
-/// False if the input ends before the first byte. It reads no byte past the frame, repeats a read that was interrupted,
-/// and takes no more memory than twice what the bytes that came fill, or one chunk. It doesn't look at the content of
-/// the frame: `decode` does.
+/// Reads the bytes of the next frame, its length and as many bytes as the length says, in place of those in `bytes`, and
+/// returns true. Returns false if the input ends before the first byte. It reads no byte past the frame, repeats a read
+/// that was interrupted, and takes no more memory than twice what the bytes that came fill, or one chunk. It doesn't look
+/// at the content of the frame: `decode` does.
 ///
-/// Faults: `Read` if a read fails; `Truncated` if the input ends within a frame; `TooLong` as soon as the length was
-/// read; `OutOfMemory`. After `TooLong` `bytes` holds the length, and nothing more was read. After any other fault the
-/// content of `bytes` is unspecified, and you must not use the reader again.
+/// Faults: `Read` if a read fails; `Truncated` if the input ends within a frame; `TooLong` as soon as the length is read;
+/// `OutOfMemory` if memory runs out. After `TooLong`, `bytes` holds the length, and nothing more was read. After any other
+/// fault the content of `bytes` is unspecified, and you must not use the reader again.
 pub fn read_frame_bytes<R: Read>(input: &mut R, bytes: &mut Vec<u8>) -> Result<bool, WireFault>
     ensures end { result ≡ Ok false → IsAtEnd (R.remaining input.old) }
     ensures frame { result ≡ Ok true → IsWhole bytes.new.items
@@ -116,9 +117,8 @@ pub fn read_frame_bytes<R: Read>(input: &mut R, bytes: &mut Vec<u8>) -> Result<b
 /// Reads the next frame, or returns None if the input ends before its first byte. It reads no byte past the frame,
 /// repeats a read that was interrupted, and takes no more memory than the bytes that came can fill.
 ///
-/// Faults: `Read` if a read fails; `Truncated` if the input ends within a frame; `TooLong` as soon as the length was
-/// read; the others as `decode` returns them for the bytes of the frame. After a fault you must not use the reader
-/// again.
+/// Faults: `Read` if a read fails; `Truncated` if the input ends within a frame; `TooLong` as soon as the length is read;
+/// the others as `decode` returns them for the bytes of the frame. After a fault you must not use the reader again.
 pub fn read_frame<R: Read>(alloc: Global, input: &mut R) -> Result<Option<Frame>, WireFault>
     ensures end { IfOk result (λ o. IfNone o (IsAtEnd (R.remaining input.old))) }
     ensures frame { IfOk result (λ o. IfSome o (λ f. Spells f (spelling f) × Consumes (R.remaining input.old) (R.remaining input.new) (spelling f))) }

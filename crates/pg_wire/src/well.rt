@@ -1,4 +1,4 @@
-//! Decides which frames are valid: whether their fields are in their ranges and orders.
+//! Decides which frames are valid: those whose fields are in their ranges and orders.
 ghost use Rattle.std.specs.Prelude.{◌↔◌, IsTrue};
 ghost use Rattle.pg_wire.specs.Well.{IsWell, AreBounds, IsSetup, IsVertices, IsValues, IsSparse, IsReport};
 
@@ -57,7 +57,7 @@ fn is_report(report: &Report) -> bool
 }
 
 impl Frame {
-    /// Whether the fields are in their ranges and orders. It takes no memory, and time linear in the frame.
+    /// Whether the fields of the frame are in their ranges and orders. It takes no memory, and time linear in the frame.
     pub fn is_well(&self) -> bool
         ensures { IsTrue result ↔ IsWell self.now }
     {

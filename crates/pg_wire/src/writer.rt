@@ -1,4 +1,4 @@
-//! Writes frames of measures, one measure after the other, into a buffer that the caller keeps.
+//! Writes frames of measures, one measure after another, into a buffer that the caller keeps.
 ghost use Rattle.std.specs.Prelude.{◌≡◌, ℕ, ◌+◌, ◌-◌, ◌≤◌, ◌<◌, ◌++◌, ◌∷◌, [], List, Some, None, length, OnOk, OnErr, IfOk};
 ghost use Rattle.std.specs.List.{flat_map};
 ghost use Rattle.pg_wire.specs.Spelling.{word, pair, spelling, longest};
@@ -12,10 +12,10 @@ use crate::reading::LONGEST;
 use byteorder::{BigEndian, ByteOrder};
 use std::alloc::AllocError;
 
-/// How many bytes stand before the values of a frame: its length, its kind, the width and the count.
+/// The number of bytes before the measures of a frame: its length, its kind, the width and the count.
 const FRONT: usize = 13;
 
-/// A frame of measures that is being written at the end of a buffer; its front is written last.
+/// A frame of measures that is being written at the end of a buffer. The bytes before its measures are written last.
 #[derive(Drop)]
 pub struct ValuesWriter {
     kind: ValueKind,
@@ -33,7 +33,7 @@ fn put_word(n: u32, out: &mut Vec<u8>) -> Result<(), AllocError>
     out.extend_from_slice(&bytes)
 }
 
-/// Each number. Where memory runs out, some of them may stand in the buffer.
+/// Appends each number. If memory runs out, some of them may be in the buffer.
 #[tactic(auto, using(crate::proofs::Buffers::extends_by))]
 pub fn put_numbers(numbers: &[u32], out: &mut Vec<u8>) -> Result<(), AllocError>
     ensures ok { OnOk result (out.new.items ≡ out.old.items ++ flat_map word numbers.now) }
@@ -55,7 +55,7 @@ fn put_pair(place: u32, n: u32, out: &mut Vec<u8>) -> Result<(), AllocError>
     out.extend_from_slice(&bytes)
 }
 
-/// Each number that isn't 0, with its place.
+/// Appends each number that isn't 0, with its place.
 fn put_pairs(numbers: &[u32], out: &mut Vec<u8>) -> Result<(), AllocError>
     requires { length numbers.now ≤ 32768 }
     ensures ok { OnOk result (out.new.items ≡ out.old.items ++ flat_map pair (nonzero numbers.now)) }
@@ -112,7 +112,8 @@ fn put_front(kind: ValueKind, width: u32, count: u32, len: u32, front: &mut [u8]
 impl ValuesWriter {
     ghost use Rattle.pg_wire.specs.Written.{IsWriting, IsAdded};
 
-    /// Begins a frame at the end of the buffer. If memory runs out, the buffer stays as it was.
+    /// Begins a frame of this kind and width at the end of the buffer, and returns its writer. If memory runs out, the
+    /// buffer stays as it was.
     pub fn begin(kind: ValueKind, width: u32, out: &mut Vec<u8>) -> Result<ValuesWriter, AllocError>
         ensures of { IfOk result (λ w. (w.kind ≡ kind) × (w.width ≡ width)) }
         ensures begun { IfOk result (λ w. IsWriting w out.old.items [] out.new.items) }
@@ -128,16 +129,16 @@ impl ValuesWriter {
         })
     }
 
-    /// How many bytes more the frame may have.
+    /// Returns the number of bytes that the frame can still take.
     fn room(&self, out: &[u8]) -> usize
         ensures { result ≡ longest + 4 - (length out.now - self.now.start) }
     {
         (4 + LONGEST as usize).saturating_sub(out.len().saturating_sub(self.start))
     }
 
-    /// Appends a vertex whose measure is this list, which must have as many numbers as the width. False if the frame
-    /// would be longer than a frame may be. If it returns false or memory runs out, writer and buffer stay as they
-    /// were.
+    /// Appends a vertex whose measure is this list, which must have as many numbers as the width, at most 32,768. Returns
+    /// false if the frame would get too long: more than 16,777,216 bytes after its length. If it returns false or memory
+    /// runs out, the writer and the buffer stay as they were.
     #[inline(always)]
     pub fn push_list(
         &mut self,
@@ -166,8 +167,8 @@ impl ValuesWriter {
         }
     }
 
-    /// Appends a vertex whose measure is top. False if the frame would be longer than a frame may be. If it returns
-    /// false or memory runs out, writer and buffer stay as they were.
+    /// Appends a vertex whose measure is top. Returns false if the frame would get too long: more than 16,777,216 bytes
+    /// after its length. If it returns false or memory runs out, the writer and the buffer stay as they were.
     pub fn push_top(&mut self, vertex: u32, out: &mut Vec<u8>) -> Result<bool, AllocError>
         ensures of { (self.new.kind ≡ self.old.kind) × (self.new.width ≡ self.old.width) }
         ensures added { (before : List ℕ) (ms : List Measured) → IsWriting self.old before ms out.old.items → IfOk result (λ fits. IsAdded fits self.old self.new before ms (vertex, None) out.old.items out.new.items) }

@@ -20,7 +20,7 @@ pub trait Spell {
 
     ghost nonempty: { (x : Self) → HasBytes (spelled x) };
 
-    /// What is left of so many bytes after the spelling, or none where it is longer.
+    /// Returns what is left of `room` bytes after the spelling, or None if the spelling is longer.
     fn room_after(&self, room: u32) -> Option<u32>
         ensures fits { IfSome result (λ left. left + length (spelled self.now) ≡ room) }
         ensures long { IfNone result (room < length (spelled self.now)) };
@@ -51,7 +51,7 @@ fn put_word<W: Write>(n: u32, out: &mut W) -> Result<(), WireFault>
     }
 }
 
-/// Each item, one after the other.
+/// Writes each item, one after another.
 #[tactic(auto, using(crate::proofs::Append::one_more, crate::proofs::Append::nothing))]
 fn put_all<T: Spell, W: Write>(items: &[T], out: &mut W) -> Result<(), WireFault>
     requires { length (flat_map T.spelled items.now) < 2 ^ 32 }
@@ -64,7 +64,7 @@ fn put_all<T: Spell, W: Write>(items: &[T], out: &mut W) -> Result<(), WireFault
     Ok(())
 }
 
-/// How many there are, and then each.
+/// Writes the number of items, and then each item.
 #[tactic(auto, using(crate::proofs::Append::then, crate::proofs::Append::few))]
 fn put_counted<T: Spell, W: Write>(items: &[T], out: &mut W) -> Result<(), WireFault>
     requires { length (flat_map T.spelled items.now) < 2 ^ 32 }
@@ -75,7 +75,7 @@ fn put_counted<T: Spell, W: Write>(items: &[T], out: &mut W) -> Result<(), WireF
     put_all(items, out)
 }
 
-/// Bytes, and then how many items there are, and each.
+/// Writes the bytes of `front`, then the number of items, and then each item.
 #[tactic(auto, using(crate::proofs::Append::then))]
 fn put_front_and_counted<T: Spell, W: Write>(
     front: &[u8],
@@ -136,7 +136,7 @@ impl Spell for (u32, u32) {
     }
 }
 
-/// What stands before the successors in a line.
+/// Returns the part of a line before the number of its successors.
 fn line_front(vertex: u32, priority: u32, owner: u8) -> [u8; 9]
     ensures { result ≡ word vertex ++ word priority ++ owner ∷ [] }
 {
@@ -219,7 +219,7 @@ impl Spell for SparseValue {
     }
 }
 
-/// How many bytes the body of a frame has, if no more than a frame may have.
+/// Returns the number of bytes in the body of a frame, or None if it is more than 16,777,216.
 fn body_len(frame: &Frame) -> Option<u32>
     ensures fits { IfSome result (λ n. (n ≡ length (body frame.now)) × (n ≤ longest)) }
     ensures long { IfNone result (longest < length (body frame.now)) }
@@ -237,7 +237,7 @@ fn body_len(frame: &Frame) -> Option<u32>
     Some(room - left?)
 }
 
-/// The kind of a frame, and then a number.
+/// Returns the kind of a frame, and then a number.
 fn kind_and_word(kind: u8, n: u32) -> [u8; 5]
     ensures { result ≡ kind ∷ word n }
 {
@@ -246,7 +246,7 @@ fn kind_and_word(kind: u8, n: u32) -> [u8; 5]
     front
 }
 
-/// What stands before the bounds in a frame of set-up.
+/// Returns the part of a set-up's body before the number of its bounds.
 fn setup_front(version: u8, vertices: u32) -> [u8; 6]
     ensures { result ≡ 1 ∷ version ∷ word vertices }
 {
@@ -255,7 +255,7 @@ fn setup_front(version: u8, vertices: u32) -> [u8; 6]
     front
 }
 
-/// The body of a frame, all that stands after its length.
+/// Writes the body of a frame: everything after its length.
 fn put_body<W: Write>(frame: &Frame, out: &mut W) -> Result<(), WireFault>
     requires { length (body frame.now) ≤ longest }
     ensures ok { OnOk result (Appends (W.contents out.old) (W.contents out.new) (body frame.now)) }
@@ -293,7 +293,7 @@ fn put_frame<W: Write>(frame: &Frame, len: u32, out: &mut W) -> Result<(), WireF
     put_body(frame, out)
 }
 
-/// Writes the spelling of a frame. It takes no memory, and writes a few bytes at a time, so put a `BufWriter` before a
+/// Writes the spelling of a frame. It takes no memory, and writes a few bytes at a time, so put a `BufWriter` around a
 /// writer whose calls are expensive.
 ///
 /// It fails with `TooLong`, and writes nothing, if and only if more than 16,777,216 bytes would follow the length.
@@ -311,10 +311,10 @@ pub fn write_frame<W: Write>(frame: &Frame, out: &mut W) -> Result<(), WireFault
     put_frame(frame, len, out)
 }
 
-/// The spelling of a frame, in a vector of its very size.
+/// Returns the spelling of a frame, in a vector of exactly its size.
 ///
-/// `TooLong` exactly where more than 16,777,216 bytes would stand after the length; else
-/// `OutOfMemory`.
+/// It fails with `TooLong` if and only if more than 16,777,216 bytes would follow the length, and otherwise only with
+/// `OutOfMemory`, if memory runs out.
 pub fn encode(alloc: Global, frame: &Frame) -> Result<Vec<u8>, WireFault>
     requires { IsWell frame.now }
     ensures spelled { IfOk result (λ bytes. bytes.items ≡ spelling frame.now) }

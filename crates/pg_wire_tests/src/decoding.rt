@@ -3,7 +3,7 @@ use pg_wire::{WireFault, decode};
 use std::alloc::Global;
 use std::test::Fail;
 
-/// Why the bytes of the text are refused, if they are.
+/// Returns why the bytes of the text are refused, if they are.
 fn fault_of(alloc: Global, text: &str) -> Result<Option<WireFault>, Fail> {
     let bytes = bytes_of(alloc, text)?;
     Ok(decode(alloc, &bytes).err())

@@ -3,7 +3,7 @@ use pg_wire::{decode, encode, laws, write_frame};
 use std::alloc::Global;
 use std::test::Fail;
 
-/// Whether the frame that the text spells is spelled so again, and is written so behind a byte, which stays.
+/// Whether the frame that the text spells has this spelling again, and is written after a byte, which stays.
 fn is_read_and_spelled(alloc: Global, text: &str) -> Result<bool, Fail> {
     let bytes = bytes_of(alloc, text)?;
     let frame = decode(alloc, &bytes)?;

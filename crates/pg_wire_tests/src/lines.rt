@@ -19,7 +19,7 @@ const SECOND: LineHead = LineHead {
     owner: 0,
 };
 
-/// The frame of the two lines, behind a byte; none if there is no room.
+/// Writes the frame of the two lines after a byte; None if there is no room.
 fn two_lines(alloc: Global) -> Result<Option<Vec<u8>>, AllocError> {
     let mut out = vec![in alloc; 255; 1]?;
     let mut writer = VerticesWriter::begin(&mut out)?;

@@ -5,7 +5,7 @@ use std::io;
 use std::io::{ErrorKind, Read, Write};
 use std::test::Fail;
 
-/// Hands over one byte at a time; the read with this number fails with this kind of error.
+/// Hands over one byte at a time. The read with this number fails with this kind of error.
 #[derive(Drop)]
 struct Failing<'a> {
     rest: &'a [u8],
@@ -25,7 +25,8 @@ impl Read for Failing<'_> {
     }
 }
 
-/// The spelling of the frame that is read of the bytes where the read with this number fails; without a frame it is empty.
+/// Returns the spelling of the frame that is read from the bytes if the read with this number fails. It is empty if there
+/// is no frame.
 fn read_failing(
     alloc: Global,
     bytes: &[u8],
@@ -91,7 +92,7 @@ fn reads_the_bytes_of_one_frame_after_the_other(rt: HostRuntime) -> Result<(), F
     Ok(())
 }
 
-/// Takes one byte at a time, and fails at a write, counted down to 0.
+/// Takes one byte at a time. `writes` is the number of writes that are left until one fails.
 #[derive(Drop)]
 struct Full {
     writes: u32,

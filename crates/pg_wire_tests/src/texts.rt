@@ -16,7 +16,7 @@ pub static FRAMES: [&str; 9] = [
     "0000001f 07 00000002 00000002 00000000 00 00000001 00000001 00000001 00000001 01",
 ];
 
-/// The bytes of a text, in which blanks may stand between bytes.
+/// Returns the bytes of a text, which may have blanks between bytes.
 pub fn bytes_of(alloc: Global, text: &str) -> Result<Vec<u8>, Fail> {
     let mut bytes = Vec::new(alloc);
     for part in text.split(' ') {

@@ -17,7 +17,7 @@ static ROWS: [(ValueKind, usize, &str); 2] = [
     ),
 ];
 
-/// The frame of that list and top, behind a byte; none if there is no room.
+/// Writes the frame of that list and top after a byte; None if there is no room.
 fn two_measures(alloc: Global, kind: ValueKind) -> Result<Option<Vec<u8>>, AllocError> {
     let mut out = vec![in alloc; 255; 1]?;
     let mut writer = ValuesWriter::begin(kind, 2, &mut out)?;
@@ -26,7 +26,7 @@ fn two_measures(alloc: Global, kind: ValueKind) -> Result<Option<Vec<u8>>, Alloc
     Ok(is_written.then_some(out))
 }
 
-/// Whether that list and then top are read, which leaves the row, and then none.
+/// Whether the reader reads that list, then top, which leaves the row as it is, and then nothing.
 fn reads_two_measures(kind: ValueKind, bytes: &[u8]) -> bool {
     let Some(mut values) = ValuesReader::open(bytes) else {
         return false;

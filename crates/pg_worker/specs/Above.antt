@@ -1,4 +1,4 @@
--- The maps that are above a session, by the frames that it took and by what it holds; and bytes that are frames.
+-- The maps that are above a session, given by the frames that it took and by its state; and bytes that are frames.
 use Rattle.std.specs.Prelude.{◌≡◌, ℕ, List, length, All}
 use Rattle.std.specs.List.{flat_map}
 use Rattle.pg_map.specs.Maps.{MapValue, MapAtMost, IsMap, IsClosed}
@@ -10,14 +10,14 @@ use Rattle.pg_coord_partition.specs.Frames.{IsAtLeast, lines_in, measures_in, Is
 use Rattle.pg_worker.specs.Workers.{part_line}
 use Rattle.pg_worker.specs.Turns.{SessionValue}
 
--- the bytes are frames with this property, one after the other
+-- the bytes are frames with this property, one after another
 pub record AreFrames (P : Frame → Type 0) (bytes : List ℕ) : Type 0 where
   pub fs : List Frame
   pub spelled : bytes ≡ flat_map spelling fs
   pub each : All (λ f. Spells f (spelling f) × P f) fs
 
--- the map is over the bounds and vertices of a set-up, closed at each vertex that the frames after it tell, and at least each
--- value that they send
+-- the map is over the bounds and vertices of a set-up, closed at each vertex in the frames after it, and at least each
+-- value in them
 pub record IsAboveFrames (s : Setup) (fs : List Frame) (h : MapValue) : Type 0 where
   pub bounds : h.bounds ≡ s.bounds
   pub map : IsMap s.bounds s.vertices h.measures

@@ -1,4 +1,4 @@
--- The codes by which a report names the faults of a worker.
+-- The codes that reports use for the faults of a worker.
 use Rattle.std.specs.Prelude.{ℕ, ◌+◌}
 use Rattle.pg_wire.specs.Faults.{number_of}
 use Rattle.pg_worker.specs.declared.fault.WorkerFault.{WorkerFault}

@@ -1,4 +1,4 @@
--- What is proved of workers and sessions, over the definitions alone.
+-- Laws of workers and sessions, stated by the definitions alone.
 use Rattle.std.specs.Prelude.{◌≡◌, ◌≢◌, ℕ, ◌<◌, List, [], ◌∷◌, ◌++◌, length, map, All, Option}
 use Rattle.pg_measure.specs.Measures.{BoundList, MeasureValue, AtMost}
 use Rattle.pg_map.specs.Lines.{Line}
@@ -15,12 +15,12 @@ use Rattle.pg_worker.specs.Turns.{SessionValue, lifted_measures, LiftsAndTells}
 use Rattle.pg_worker.specs.Serving.{Replies}
 use Rattle.pg_worker.specs.Above.{AreFrames, IsAboveFrames}
 
--- what changes a worker's map once its part is complete: a value is taken, or lifts make updates
+-- a change of a worker's map once its part is complete: a value is taken, or lifts make updates
 pub data Step : Type 0 where
   Taken : ℕ → MeasureValue → Step
   Lifted : List Update → Step
 
--- the steps, one after the other, make g of f
+-- the steps, one after another, lead from f to g
 abbrev pub AreSteps : BoundList → (ℕ → Option Line) → List MeasureValue → List Step → List MeasureValue → Type 0
 AreSteps bounds lines f [] g = g ≡ f
 AreSteps bounds lines f (Taken v m ∷ ss) g =
@@ -40,7 +40,7 @@ updates_in [] = []
 updates_in (Taken v m ∷ ss) = (v, m) ∷ updates_in ss
 updates_in (Lifted us ∷ ss) = map (λ u. (u.vertex, u.measure.value)) us ++ updates_in ss
 
--- a worker's map is the join of all that it took and lifted: the least map that is at least zeros and each of these
+-- a worker's map is the join of everything that it took and lifted: the least map that is at least zeros and each of these
 abbrev pub StepsJoin : Type 0
 StepsJoin =
     (bounds : BoundList) (lines : ℕ → Option Line) (count : ℕ) (ss : List Step) (g : List MeasureValue)
@@ -53,7 +53,8 @@ StepsStayUnder =
     → AreSteps bounds lines (zero_map bounds count) ss g
     → IsMap bounds count h → IsClosed bounds lines h → IsAtLeastTaken ss h → MapAtMost g h
 
--- what a worker sends after lifts is at most every map that is closed on the part and at least the worker's map
+-- the measures that a worker sends after lifts are at most those of every map that is closed on the part and at least the
+-- worker's map
 abbrev pub ToldStayUnder : Type 0
 ToldStayUnder =
     (h : SessionValue) (budget : ℕ) (after : Option SessionValue) (reply : List ℕ) (k : List MeasureValue)
@@ -61,9 +62,9 @@ ToldStayUnder =
     → IsMap h.worker.bounds (length h.worker.map) k → IsClosed h.worker.bounds (part_line h.worker.lines) k → MapAtMost h.worker.map k
     → IsAtLeast k (lifted_measures t.worker)
 
--- What a session replies to a set-up and to the frames after it, none of which is another set-up, is frames. Each measure in
--- them is at most every map over the set-up's bounds and vertices that is closed at each vertex told and at least each value
--- sent.
+-- The replies of a session to a set-up and to the frames after it, none of which is another set-up, are frames. Each
+-- measure in them is at most that of every map over the set-up's bounds and vertices that is closed at each vertex sent and
+-- at least each value sent.
 abbrev pub RepliesStayUnder : Type 0
 RepliesStayUnder =
     (s : Setup) (fs : List Frame) (before after : Option SessionValue) (replies : List ℕ) (h : MapValue)

@@ -1,4 +1,4 @@
--- What mirrors code: contracts of private functions cite it, and no definition that a reader has to believe does.
+-- Mirrors of code: contracts of private functions cite them, and no definition that a reader has to believe does.
 pub mod Lifts
 pub mod Insides
 pub mod Replies

@@ -1,4 +1,4 @@
--- What serving does: the frames that were read, the replies to them, and how it ended.
+-- Serving: the frames that were read, the replies to them, and how it ended.
 use Rattle.std.specs.Prelude.{◌≡◌, ◌≢◌, ℕ, ◌<◌, ◌⊎◌, List, [], ◌∷◌, ◌++◌, length, All, Option, None, Err, IfSome}
 use Rattle.std.specs.List.{flat_map}
 use Rattle.std.specs.Io.KnownBytes.{Consumes, Appends, IsAtEnd}
@@ -15,7 +15,7 @@ use Rattle.pg_worker.specs.declared.served.Served.TheVariants.{Halted, InputEnde
 use Rattle.pg_worker.specs.Faults.{code_of}
 use Rattle.pg_worker.specs.Turns.{SessionValue, Turn, Refuses, IsOfBytes, report}
 
--- the replies to some frames, one turn after the other
+-- the replies to some frames, one turn after another
 abbrev pub Replies : Option SessionValue → List Frame → Option SessionValue → List ℕ → Type 0
 Replies before [] after bytes = (after ≡ before) × (bytes ≡ [])
 Replies before (f ∷ fs) after bytes =
@@ -31,14 +31,14 @@ pub record Exchanges (input input' output output' : Option (List ℕ)) (fs : Lis
   pub read : Consumes input input' (flat_map spelling fs)
   pub written : Appends output output' bytes
 
--- after these frames it ended: with Halt, where the input ended, or with the last frame that may be counted
+-- after these frames serving ended: with Halt, because the input ended, or with the last frame that can be counted
 abbrev pub EndsAfter : Served → List Frame → Option (List ℕ) → Type 0
 EndsAfter (Halted n) fs left =
     (n ≡ length fs) × (front : List Frame) × (fs ≡ front ++ frames.Halt ∷ []) × All (λ f. f ≢ frames.Halt) front
 EndsAfter (InputEnded n) fs left = (n ≡ length fs) × All (λ f. f ≢ frames.Halt) fs × IsAtEnd left
 EndsAfter Bound fs left = (length fs ≡ 4294967295) × All (λ f. f ≢ frames.Halt) fs
 
--- where the input ended, reading on may have changed the reader
+-- if the input ended, reading on may have changed the reader
 abbrev pub IsLeft : Served → Option (List ℕ) → Option (List ℕ) → Type 0
 IsLeft (InputEnded n) left input' = Unit {0}
 IsLeft served left input' = left ≡ input'
@@ -51,15 +51,15 @@ pub record Serves (served : Served) (input input' output output' : Option (List 
   pub ends : EndsAfter served fs left
   pub left_is : IsLeft served left input'
 
--- the report of a fault; none where the input or the output failed or was cut short
+-- the bytes of the report of a fault; none if the input or the output failed or was cut short
 abbrev pub report_bytes : WorkerFault → List ℕ
 report_bytes (Wire wire.Read) = []
 report_bytes (Wire wire.Write) = []
 report_bytes (Wire wire.Truncated) = []
 report_bytes e = report 2 (code_of e)
 
--- why no turn was done with what is left: memory, a read that failed, bytes that are no frame, or a well frame that is
--- refused
+-- why no turn was done with the rest of the input: memory ran out, a read failed, the bytes are no frame, or a well frame
+-- is refused
 abbrev pub IsFaultAt : Option (List ℕ) → Option SessionValue → WorkerFault → Type 0
 IsFaultAt left held e =
     (e ≡ OutOfMemory) ⊎ (e ≡ Wire wire.Read)
@@ -67,7 +67,7 @@ IsFaultAt left held e =
     ⊎ ((f : Frame) × (rest : Option (List ℕ)) × Spells f (spelling f) × Consumes left rest (spelling f)
     × Refuses 2 held f e)
 
--- the frames before the fault were answered, none of them Halt and fewer than may be counted, and the fault was reported
+-- the frames before the fault were answered, none of them Halt and fewer than can be counted, and the fault was reported
 pub record Breaks (e : WorkerFault) (input output output' : Option (List ℕ)) : Type 0 where
   pub fs : List Frame
   pub held : Option SessionValue

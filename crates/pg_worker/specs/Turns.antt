@@ -1,4 +1,4 @@
--- The turns of a session: what it holds, what it answers to a frame, and when it refuses one.
+-- The turns of a session: its state, its replies to frames, and the frames that it refuses.
 use Rattle.std.specs.Prelude.{◌≡◌, ◌≢◌, ℕ, ◌<◌, ◌≤◌, ◌==◌, ◌⊎◌, ◌↔◌, IsTrue, Bool, true, false, List, [], ◌∷◌, ◌++◌, length, map, take, All}
 use Rattle.std.specs.Prelude.{Option, Some, None, if◌then◌else◌}
 use Rattle.std.specs.List.{flat_map}
@@ -21,16 +21,16 @@ use Rattle.pg_worker.specs.declared.fault.WorkerFault.{WorkerFault}
 use Rattle.pg_worker.specs.declared.fault.WorkerFault.TheVariants.{BadUpdate, Order, Wire}
 use Rattle.pg_worker.specs.Workers.{WorkerValue, new_worker, with_lines, AreAbove, FitsGame, RefusesLines, CanTake, IsListedTurn}
 
--- what a session holds from a set-up on: the kind of frames in which values go, whether values or a Go came, and its
+-- the state of a session from a set-up on: the kind of frames in which values go, whether values or a Go came, and its
 -- worker
 pub record SessionValue : Type 0 where
   pub kind : ValueKind
   pub is_started : Bool
   pub worker : WorkerValue
 
--- ---- what is held after a frame
+-- ---- the state after a frame
 
--- what a set-up leaves: a new worker, and no values or Go yet
+-- the state after a set-up: a new worker, and no values or Go yet
 abbrev pub fresh : Setup → SessionValue
 fresh s = record { kind = kind_of s.version; is_started = false; worker = new_worker s.bounds s.vertices }
 
@@ -39,13 +39,13 @@ abbrev pub with_part : SessionValue → List VertexLine → SessionValue
 with_part h ls =
     record { kind = h.kind; is_started = h.is_started; worker = record h.worker { lines = with_lines h.worker.lines ls } }
 
--- values or a Go came, and left this worker
+-- values or a Go came, after which this is the worker
 abbrev pub started : SessionValue → WorkerValue → SessionValue
 started h w = record { kind = h.kind; is_started = true; worker = w }
 
 -- ---- values that are sent
 
--- each measure is of a vertex below the count, and fits the bounds
+-- each measure belongs to a vertex below the count, and fits the bounds
 abbrev pub CanTakeAll : WorkerValue → List Measured → Type 0
 CanTakeAll w ms = All (λ m. CanTake w m.0 m.1) ms
 
@@ -55,7 +55,7 @@ pub record AreInTurn (h : SessionValue) (kind : ValueKind) (width : ℕ) (ms : L
   pub width_is : width ≡ length h.worker.bounds
   pub fit : CanTakeAll h.worker ms
 
--- the values are joined to the worker's map
+-- the values are joined with the worker's map
 pub record TakesValues (h : SessionValue) (kind : ValueKind) (width : ℕ) (ms : List Measured) (after : Option SessionValue)
     : Type 0 where
   pub in_turn : AreInTurn h kind width ms
@@ -71,11 +71,11 @@ RefusesValues h kind width ms why =
 
 -- ---- replies
 
--- the bytes of a report of this status and code
+-- the bytes of a report with this status and code
 abbrev pub report : ℕ → ℕ → List ℕ
 report status code = spelling (frames.Report (record { status = status; code = code }))
 
--- a set-up of version 2 is answered
+-- the reply to a set-up: a report under version 2, and nothing under version 1
 abbrev pub greeting : ℕ → List ℕ
 greeting version = if version == 2 then report 1 0 else []
 
@@ -87,14 +87,14 @@ abbrev pub EndsFull : ValueKind → ℕ → List Measured → List (List Measure
 EndsFull kind width ms [] = Unit {0}
 EndsFull kind width ms (next ∷ more) = longest < frame_size kind width (ms ++ take 1 next)
 
--- the measures of some frames, one after the other: each has one, none is too long, and one ends only where the next
--- measure wouldn't fit
+-- the measures of some frames, one after another: each frame has at least one, none is too long, and one ends only where
+-- the next measure wouldn't fit
 abbrev pub ArePacked : ValueKind → ℕ → List (List Measured) → Type 0
 ArePacked kind width [] = Unit {0}
 ArePacked kind width (ms ∷ more) =
     (1 ≤ length ms) × (frame_size kind width ms ≤ longest) × EndsFull kind width ms more × ArePacked kind width more
 
--- the bytes are frames of these measures
+-- the bytes are frames with these measures
 pub record Packs (kind : ValueKind) (width : ℕ) (ms : List Measured) (bytes : List ℕ) : Type 0 where
   pub groups : List (List Measured)
   pub all : flat_map (λ group. group) groups ≡ ms
@@ -105,7 +105,7 @@ pub record Packs (kind : ValueKind) (width : ℕ) (ms : List Measured) (bytes : 
 abbrev pub lifted_measures : WorkerValue → List Measured
 lifted_measures w = map (λ v. (v, measure_at w.map v)) w.lifted
 
--- lifts, answered by the measures of the vertices that were lifted and a report
+-- lifts, and the reply: the measures of the vertices that were lifted, and a report
 pub record LiftsAndTells (h : SessionValue) (budget : ℕ) (after : Option SessionValue) (reply : List ℕ) : Type 0 where
   pub worker : WorkerValue
   pub quiet : Bool
@@ -117,8 +117,8 @@ pub record LiftsAndTells (h : SessionValue) (budget : ℕ) (after : Option Sessi
 
 -- ---- turns
 
--- One turn that isn't refused: what is held before, the frame, what is held after it, and the reply. A set-up or Halt
--- may come at any time, vertices only before the first values or Go, and values only in the kind of the version.
+-- One turn that isn't refused: the state before, the frame, the state after it, and the reply. A set-up or Halt may come at
+-- any time, vertices only before the first values or Go, and values only in the kind of the version.
 abbrev pub Turn : Option SessionValue → Frame → Option SessionValue → List ℕ → Type 0
 Turn before (frames.Setup s) after reply = (after ≡ Some (fresh s)) × (reply ≡ greeting s.version)
 Turn before frames.Halt after reply = (after ≡ None) × (reply ≡ [])
@@ -133,12 +133,12 @@ Turn (Some h) (frames.Sparse v) after reply =
 Turn (Some h) (frames.Go g) after reply = LiftsAndTells h g.budget after reply
 Turn (Some h) (frames.Report r) after reply = ⊥
 
--- a set-up is of one of the versions that the session takes
+-- a set-up has one of the versions that the session accepts
 abbrev pub IsUpTo : ℕ → Frame → Type 0
 IsUpTo highest (frames.Setup s) = s.version ≤ highest
 IsUpTo highest frame = Unit {0}
 
--- why a session that takes versions up to `highest` refuses a frame, apart from running out of memory
+-- why a session that accepts versions up to `highest` refuses a frame, apart from running out of memory
 abbrev pub Refuses : ℕ → Option SessionValue → Frame → WorkerFault → Type 0
 Refuses highest before (frames.Setup s) why = (why ≡ Wire Version) × (highest < s.version)
 Refuses highest before frames.Halt why = ⊥
@@ -157,7 +157,7 @@ abbrev pub HasRows : Frame → Type 0
 HasRows (frames.Vertices v) = Unit {0}
 HasRows f = TellsMeasures f
 
--- the bytes spell such a frame
+-- the bytes spell a frame of vertices or of values
 abbrev pub SpellsRows : List ℕ → Type 0
 SpellsRows bytes = (f : Frame) × HasRows f × Spells f bytes
 

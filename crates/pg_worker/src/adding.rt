@@ -1,4 +1,4 @@
-//! Vertices that are added to a part.
+//! Adds vertices to a part.
 
 ghost use Rattle.std.specs.Prelude.{◌≡◌, ◌↔◌, ◌<◌, ◌≤◌, length, map, All, AllPairs, IfOk, IsTrue};
 ghost use Rattle.pg_wire.specs.Lines.{head_of, line_with};
@@ -14,7 +14,7 @@ use pg_wire::{LineHead, VertexLine};
 use std::alloc::{AllocError, Global};
 use std::collections::VecDeque;
 
-/// The player with this number.
+/// Returns the player with this number: Even for 0, Odd otherwise.
 fn player(number: u8) -> Player
     ensures { result ≡ player number }
 {
@@ -25,7 +25,7 @@ fn player(number: u8) -> Player
     }
 }
 
-/// The line of a vertex by its head and its successors.
+/// Makes the line of a vertex from its head and its successors.
 pub(crate) fn new_line(
     alloc: Global,
     head: LineHead,
@@ -36,7 +36,7 @@ pub(crate) fn new_line(
     PartLine::new(alloc, head.priority, player(head.owner), successors)
 }
 
-/// The head of a line.
+/// Returns the head of a line.
 fn head_of(line: &VertexLine) -> LineHead
     ensures { result ≡ head_of line.now }
 {
@@ -47,7 +47,7 @@ fn head_of(line: &VertexLine) -> LineHead
     }
 }
 
-/// The lines as they are held.
+/// Makes the part's lines from lines of a frame.
 pub(crate) fn new_lines(
     alloc: Global,
     lines: &[VertexLine],
@@ -62,7 +62,8 @@ pub(crate) fn new_lines(
     Ok(held)
 }
 
-/// Adds vertices, which rise from `next` on, by their lines as they are held.
+/// Adds vertices, which rise from `next` on, given by the lines of the frame and by the part's lines that were made from
+/// them.
 pub(crate) fn add_lines(
     lifter: &mut Lifter<Part>,
     next: &mut u64,
@@ -90,7 +91,7 @@ pub(crate) fn add_lines(
     }
 }
 
-/// How many edges the lines have.
+/// Returns the number of edges that the lines have.
 pub(crate) fn count_edges(lines: &[VertexLine]) -> usize {
     let mut count = 0usize;
     for line in lines {
@@ -117,14 +118,14 @@ fn has_bound(bounds: &Bounds, priority: u32) -> bool
     count > 0 && bounds.pairs()[count - 1].0 == priority
 }
 
-/// Whether vertex and successors are below the count, and an odd priority has a bound.
+/// Whether the vertex and its successors are below the count, and an odd priority has a bound.
 pub(crate) fn fits_line(bounds: &Bounds, count: u32, head: LineHead, successors: &[u32]) -> bool
     ensures { IsTrue result ↔ FitsGame bounds.now count (line_with head successors.now) }
 {
     head.vertex < count && successors.iter().all(|w| *w < count) && has_bound(bounds, head.priority)
 }
 
-/// As `fits_line`, of a line.
+/// Whether a line fits the game, as `fits_line` decides.
 fn fits_game(bounds: &Bounds, count: u32, line: &VertexLine) -> bool
     ensures { IsTrue result ↔ FitsGame bounds.now count line.now }
 {

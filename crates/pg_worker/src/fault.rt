@@ -12,7 +12,7 @@ use thiserror::Error;
 /// Why a worker refuses a request.
 #[derive(Clone, Copy, Debug, PartialEq, Eq, Error)]
 pub enum WorkerFault {
-    /// A growth was refused.
+    /// The allocator refused a growth.
     #[error("out of memory")]
     OutOfMemory,
     /// The vertex to lift is outside the worker's part.
@@ -31,7 +31,8 @@ pub enum WorkerFault {
 }
 
 impl WorkerFault {
-    /// The code in the report of the fault: 1 to 4 in the order above, or for a fault of a frame its number plus 10.
+    /// Returns the code in the report of this fault: 1 to 4 in the order above, or for a fault of a frame its number plus
+    /// 10.
     pub fn code(&self) -> u8
         ensures { result ≡ code_of self.now }
     {
@@ -45,7 +46,7 @@ impl WorkerFault {
     }
 }
 
-/// A fault of a frame as one of a worker: `OutOfMemory` is the worker's own.
+/// Returns a frame's fault as a fault of a worker: `OutOfMemory` becomes the worker's own.
 pub(crate) fn own(fault: WireFault) -> WorkerFault
     ensures { result ≡ own_fault fault }
 {

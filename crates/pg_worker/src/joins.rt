@@ -1,4 +1,4 @@
-//! Values that are sent are joined to a worker's map.
+//! Joins the values of a frame to a worker's map.
 
 ghost use Rattle.std.specs.Prelude.{◌≡◌, List, OnOk, IfErr, length};
 ghost use Rattle.pg_wire.specs.Left.{IsLeft};
@@ -10,7 +10,9 @@ use crate::{Worker, WorkerFault};
 use pg_coord_partition::lent_row;
 use pg_wire::ValuesReader;
 
-/// Joins the map with each of the measures that are left, by a row of as many places as the width says.
+/// Joins each of the measures that are left with the map, using a row of as many places as the width says. It fails with
+/// `BadUpdate` if a vertex isn't below the number of vertices, or a measure doesn't fit the bounds; the measures before
+/// that one stay joined.
 pub fn join_read(
     worker: &mut Worker,
     mut values: ValuesReader,

@@ -17,7 +17,7 @@ pub fn told_stay_under()
     ensures { ToldStayUnder }
 {}
 
-/// A worker's map is the join of all that it took and lifted, in whatever order.
+/// A worker's map is the join of everything that it took and lifted, in whatever order.
 pub fn steps_join()
     ensures { StepsJoin }
 {}

@@ -1,5 +1,5 @@
-//! Workers. Each holds a part of a game's vertices and lifts them. Its map is over all vertices, and it joins the
-//! values of other parts with it. A session puts a worker behind frames.
+//! Workers. Each holds a part of a game's vertices and lifts them. Its map is over all vertices, and it joins the values of
+//! other parts with it. A session drives a worker by frames.
 #![tactic(auto)]
 
 mod adding;

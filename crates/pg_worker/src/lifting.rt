@@ -12,14 +12,15 @@ use pg_map_lift::{Lifter, Part};
 use pg_measure::{Bounds, Measure};
 use std::alloc::AllocError;
 
-/// The updates of a run of lifts, in the order in which they were made, and whether no vertex of the part can be lifted now.
+/// The updates of a run of lifts, in the order in which they were made, and whether no vertex of the part can be lifted any
+/// more.
 #[derive(Drop)]
 pub struct Lifted {
     pub quiet: bool,
     pub updates: Vec<Update>,
 }
 
-/// Makes room for one update more, and takes the memory for its measure.
+/// Makes room for one more update, and takes the memory for its measure.
 fn room_for_update(updates: &mut Vec<Update>, bounds: &Bounds) -> Result<Measure, AllocError>
     ensures items { updates.new.items ≡ updates.old.items }
     ensures room { OnOk result (vec_len updates.new < vec_capacity updates.new) }
@@ -29,8 +30,8 @@ fn room_for_update(updates: &mut Vec<Update>, bounds: &Bounds) -> Result<Measure
     Measure::zero(*updates.allocator(), bounds)
 }
 
-/// Lifts at most `budget` vertices, and tells whether none of the part can be lifted. The updates are appended, in order,
-/// whatever the answer is; the memory for one is taken before its lift.
+/// Makes at most `budget` lifts, and returns whether no vertex of the part can be lifted any more. Appends the updates in
+/// order, even if it fails. It takes the memory for an update before the lift.
 pub(crate) fn lift_some(
     lifter: &mut Lifter<Part>,
     updates: &mut Vec<Update>,
@@ -58,7 +59,8 @@ pub(crate) fn lift_some(
     Ok(lifter.is_quiet())
 }
 
-/// Lifts at most `budget` vertices, and tells whether none of the part can be lifted. Each vertex that is lifted is listed.
+/// Makes at most `budget` lifts, and returns whether no vertex of the part can be lifted any more. Lists each vertex that
+/// it lifts.
 pub(crate) fn lift_turn(lifter: &mut Lifter<Part>, lifted: &mut VertexSet, budget: u32) -> bool
     requires room { lifted.old.count ≡ length lifter.old.map.measures }
     requires none { lifted.old.vertices ≡ [] }

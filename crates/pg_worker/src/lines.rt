@@ -1,4 +1,4 @@
-//! Lines that are read are added to a worker's part.
+//! Adds the lines of a frame to a worker's part.
 
 ghost use Rattle.std.specs.Prelude.{◌≡◌, ◌⊎◌, List, [], Some, All, OnOk, IfErr, length};
 ghost use Rattle.pg_wire.specs.declared.frame.VertexLine.{VertexLine};
@@ -12,8 +12,8 @@ use crate::{Worker, WorkerFault};
 use pg_wire::VerticesReader;
 use std::alloc::Global;
 
-/// Adds the vertices of the lines that are left, as `Worker::add_vertices` does; the vector is for the successors of one line
-/// at a time. After a refusal some of them may be of the part.
+/// Adds the vertices of the lines that are left, as `Worker::add_vertices` does. The vector is for the successors of one
+/// line at a time. After a refusal some of the vertices may be in the part.
 fn add_read(
     worker: &mut Worker,
     mut lines: VerticesReader,
@@ -35,7 +35,9 @@ fn add_read(
     Ok(())
 }
 
-/// Adds the lines that are left of a frame of vertices to what is held.
+/// Adds the lines that are left of a frame of vertices to the part of the session's worker. It fails with `Order` once
+/// values or a Go came or if the vertices don't rise, with `BadUpdate` if a line doesn't fit the game, and with
+/// `OutOfMemory`.
 pub fn add_read_lines(
     alloc: Global,
     held: &mut SessionState,

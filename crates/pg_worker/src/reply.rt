@@ -21,7 +21,8 @@ pub fn put_report(status: u8, code: u8, out: &mut Vec<u8>) -> Result<(), AllocEr
     out.extend_from_slice(&[0, 0, 0, 3, 5, status, code])
 }
 
-/// Appends one frame of the measures of as many of these vertices as fit in it, from the first on, and says how many.
+/// Appends one frame with the measures of as many of these vertices as fit in it, from the first on, and returns their
+/// number.
 fn put_frame(
     worker: &Worker,
     kind: ValueKind,
@@ -55,7 +56,7 @@ fn put_frame(
     Ok(vertices.len())
 }
 
-/// Appends frames of the measures of the vertices that were lifted in the last turn.
+/// Appends frames with the measures of the vertices that were lifted in the last turn.
 pub fn put_lifted(worker: &Worker, kind: ValueKind, out: &mut Vec<u8>) -> Result<(), AllocError>
     requires few { length worker.now.bounds ≤ 32768 }
     requires within { All (λ v. v < length worker.now.map) worker.now.lifted }

@@ -1,4 +1,4 @@
-//! How serving ended, and what each of its steps did.
+//! How serving ended, and the outcome of each of its steps.
 
 /// How serving ended, and the number of frames that were read, Halt included.
 #[derive(Clone, Copy, Debug, PartialEq, Eq)]
@@ -11,9 +11,9 @@ pub enum Served {
     Bound,
 }
 
-/// What one step of serving did.
+/// The outcome of one step of serving.
 pub enum Step {
-    /// There was no frame left.
+    /// No frame was left.
     Ended,
     /// The frame was Halt.
     Halted,

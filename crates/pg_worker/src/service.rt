@@ -17,7 +17,7 @@ use pg_wire::{Frame, Report, WireFault, read_frame_bytes, write_frame};
 use std::alloc::Global;
 use std::io::{Read, Write};
 
-/// Reads one frame into `bytes`, if there is one, and writes the reply to it, which it makes in `reply`.
+/// Reads one frame into `bytes`, if there is one, makes the reply to it in `reply`, and writes it.
 fn step<R: Read, W: Write>(
     session: &mut Session,
     bytes: &mut Vec<u8>,
@@ -48,7 +48,7 @@ fn step<R: Read, W: Write>(
     Ok(Step::Answered)
 }
 
-/// Writes the report of a fault, if it has one, and gives the fault that serving ends with.
+/// Writes the report of a fault, if it has one, and returns the fault that serving ends with.
 fn tell<W: Write>(fault: WorkerFault, output: &mut W) -> WorkerFault
     ensures { ((result ≡ fault) × Appends (W.contents output.old) (W.contents output.new) (report_bytes fault))
         ⊎ (result ≡ Wire Write) }
@@ -68,7 +68,7 @@ fn tell<W: Write>(fault: WorkerFault, output: &mut W) -> WorkerFault
     }
 }
 
-/// Serves frames with a session that holds nothing; the vectors are for the bytes of a frame and for the reply to it.
+/// Serves frames with a session that holds nothing. The vectors are for the bytes of a frame and for the reply to it.
 fn serve_by<R: Read, W: Write>(
     session: &mut Session,
     bytes: &mut Vec<u8>,
@@ -94,8 +94,8 @@ fn serve_by<R: Read, W: Write>(
     Ok(Served::Bound)
 }
 
-/// Serves frames: reads them one after the other, and writes the replies of a session to `output`. It ends after Halt,
-/// when the input ends before a frame, after 4,294,967,295 frames, or at a fault.
+/// Serves frames: reads them one after another, and writes the replies of a session to `output`. It ends after Halt, when
+/// the input ends before a frame, after 4,294,967,295 frames, or at a fault.
 ///
 /// Faults: those of a session; `Wire` for a frame that can't be read; `Wire(Write)` if a write fails, which may leave
 /// part of the output written. Before it ends with a fault other than `Wire(Read)` and `Wire(Truncated)`, it writes the

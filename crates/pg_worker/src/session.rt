@@ -1,4 +1,4 @@
-//! Sessions: a worker behind frames.
+//! Sessions: workers that are driven by frames.
 
 ghost use Rattle.std.specs.Prelude.{◌≡◌, ◌↔◌, ℕ, ◌<◌, ◌≤◌, ◌++◌, ◌⊎◌, List, [], length, None, Err, IsTrue, false, MatchBool, IfOk, IfErr, OnOk, OnErr};
 ghost use Rattle.pg_wire.specs.Spelling.{body, longest};
@@ -14,7 +14,7 @@ use crate::turn::{turn, turn_of_rows};
 use pg_wire::{Frame, decode, encode};
 use std::alloc::Global;
 
-/// A worker that gets its orders as frames, and answers with frames. Before a set-up, after Halt and after a refusal it
+/// A worker that receives its orders as frames, and answers with frames. Before a set-up, after Halt and after a refusal it
 /// holds nothing.
 #[derive(Drop)]
 pub struct Session {
@@ -24,7 +24,7 @@ pub struct Session {
 }
 
 impl Session {
-    /// A session that accepts set-ups of both versions of the wire format.
+    /// Makes a session that accepts set-ups of both versions of the wire format.
     pub fn new(alloc: Global) -> Session
         ensures highest { result.highest ≡ 2 }
         ensures held { result.held ≡ None }
@@ -32,7 +32,7 @@ impl Session {
         Session::limited(alloc, 2)
     }
 
-    /// A session that accepts set-ups of versions up to `highest`, which is 1 or 2.
+    /// Makes a session that accepts set-ups of versions up to `highest`, which is 1 or 2.
     pub fn limited(alloc: Global, highest: u8) -> Session
         ensures highest { result.highest ≡ highest }
         ensures held { result.held ≡ None }
@@ -44,7 +44,7 @@ impl Session {
         }
     }
 
-    /// Handles one frame, and appends the reply to `out`. True for Halt, after which the session holds nothing.
+    /// Handles one frame, and appends the reply to `out`. Returns true for Halt, after which the session holds nothing.
     ///
     /// A set-up starts the worker anew, with an empty part and zeros; the reply to one of version 2 is the report of a
     /// quiet worker. Vertices join the part; they come before the first values or Go. Values join the map: Values under
@@ -78,8 +78,8 @@ impl Session {
         }
     }
 
-    /// As `frame`, for the frame that the bytes spell, all of them. It reads measures from the bytes one after the
-    /// other, without taking memory.
+    /// Handles the frame that the bytes, all of them, spell, as `frame` does. It reads measures from the bytes one after
+    /// another, without taking memory.
     ///
     /// Faults: those of `frame`, and `Wire` with the fault of `decode` if the bytes spell no frame. After a fault `out`
     /// is as before, and the session holds nothing.
@@ -105,7 +105,9 @@ impl Session {
         }
     }
 
-    /// As `frame`, for a frame that has no rows, which are vertices or values.
+    /// Handles a frame that has no rows, which are vertices or values, as `frame` does.
+    ///
+    /// Faults: those of `frame` for that frame. After a fault `out` is as before, and the session holds nothing.
     pub fn frame_without_rows(
         &mut self,
         frame: &Frame,
@@ -134,8 +136,8 @@ impl Session {
         }
     }
 
-    /// As `frame_from`, for a frame of vertices or of values, which has no reply. True if the bytes spell such a frame,
-    /// which is then handled. False if they don't, and then nothing has changed.
+    /// Handles a frame of vertices or of values, which has no reply, as `frame_from` does. Returns true if the bytes spell
+    /// such a frame, which is then handled. Returns false if they don't, and then nothing has changed.
     ///
     /// Faults: those of `frame` for that frame. After a fault the session holds nothing.
     pub fn rows_from(&mut self, bytes: &[u8]) -> Result<bool, WorkerFault>

@@ -1,4 +1,4 @@
-//! What a session holds.
+//! The state of a session.
 
 ghost use Rattle.std.specs.Prelude.{◌≡◌};
 
@@ -6,7 +6,8 @@ use crate::Worker;
 use pg_wire::ValueKind;
 use std::marker::Model;
 
-/// What a session holds from a set-up on: the kind of frames in which values go, whether values or a Go came, and the worker.
+/// The state of a session from a set-up on: the kind of frames in which values go, whether values or a Go came, and the
+/// worker.
 #[derive(Drop)]
 pub struct SessionState {
     pub kind: ValueKind,
@@ -27,7 +28,7 @@ impl Model for SessionState {
     ghost invariant = { λ h. (length h.worker.bounds ≤ 32768) × (length h.row.items ≡ length h.worker.bounds) };
 }
 
-/// Puts this in place of what is held, which is dropped.
+/// Puts `new` in place of the state that is held, and drops the old one.
 pub fn replace_state(held: &mut Option<SessionState>, new: Option<SessionState>)
     ensures { held.new ≡ new }
 {

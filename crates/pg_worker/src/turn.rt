@@ -18,7 +18,8 @@ use pg_coord_partition::fits_worker;
 use pg_wire::{Frame, Setup, ValueKind, ValuesReader, VerticesReader, WireFault};
 use std::alloc::Global;
 
-/// Answers a set-up, and tells the kind of frames in which values go under its version.
+/// Appends the answer to a set-up, if its version has one, and returns the kind of frames in which values go under that
+/// version.
 fn greet(version: u8, out: &mut Vec<u8>) -> Result<ValueKind, WorkerFault>
     ensures kind { IfOk result (λ kind. kind ≡ kind_of version) }
     ensures reply { OnOk result (out.new.items ≡ out.old.items ++ greeting version) }
@@ -64,7 +65,7 @@ fn set_up(
     })
 }
 
-/// Joins the worker's map with the measures that are left of a frame.
+/// Joins the measures that are left of a frame with the worker's map.
 fn take_read(held: &mut SessionState, values: ValuesReader) -> Result<(), WorkerFault>
     ensures turn { (ms : List Measured) → IsLeft values.entry ms
         → OnOk result (TakesValues held.old values.entry.kind values.entry.width ms (Some held.new)) }
@@ -96,8 +97,8 @@ fn lift(held: &mut SessionState, budget: u32, out: &mut Vec<u8>) -> Result<(), W
     Ok(())
 }
 
-/// Does the turn of a frame that has no rows on what is held, and tells whether it is Halt; the reply is appended. After a fault
-/// some of it may stand in `out`, and nothing is said of what is held.
+/// Does the turn of a frame that has no rows, appends the reply, and returns whether the frame is Halt. After a fault part
+/// of the reply may be in `out`, and the state that is held is unspecified.
 pub fn turn(
     alloc: Global,
     highest: u8,
@@ -136,9 +137,9 @@ pub fn turn(
     }
 }
 
-/// Does the turn of the frame of vertices or of values that the bytes spell on what is held; it has no reply. False
-/// where they spell no such frame, and then nothing has changed. The rows are read from the bytes, one after the other.
-/// After a fault nothing is said of what is held.
+/// Does the turn of the frame of vertices or of values that the bytes spell; it has no reply. Returns false if they spell
+/// no such frame, and then nothing has changed. It reads the rows from the bytes, one after another. After a fault the
+/// state that is held is unspecified.
 pub fn turn_of_rows(
     alloc: Global,
     held: &mut Option<SessionState>,

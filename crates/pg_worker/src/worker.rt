@@ -44,7 +44,7 @@ impl Model for Worker {
     ghost invariant = { λ w. IsWhole w.lifter w.next w.lifted.count };
 }
 
-/// The map of a new worker.
+/// Makes the map of a new worker.
 fn zeros(alloc: Global, setup: &Setup) -> Result<MeasureMap, AllocError>
     requires { IsSetup setup.now }
     ensures bounds { IfOk result (λ m. m.bounds ≡ setup.now.bounds) }
@@ -55,8 +55,8 @@ fn zeros(alloc: Global, setup: &Setup) -> Result<MeasureMap, AllocError>
 }
 
 impl Worker {
-    /// A worker for a game with this number of vertices and these bounds. Its part is empty, and its map has zeros. It
-    /// fails only if memory runs out.
+    /// Makes a worker for a game with the number of vertices and the bounds of a set-up. Its part is empty, and its map has
+    /// zeros. It fails only if memory runs out.
     pub fn new(alloc: Global, setup: &Setup) -> Result<Worker, WorkerFault>
         requires { IsSetup setup.now }
         ensures new { IfOk result (λ w. w ≡ new_worker setup.now.bounds setup.now.vertices) }
@@ -100,7 +100,7 @@ impl Worker {
         Ok(())
     }
 
-    /// As `add_vertices`, for one vertex, given by its head and its successors.
+    /// Adds one vertex, given by its head and its successors, of which there must be at least one, as `add_vertices` does.
     pub fn add_vertex(&mut self, head: LineHead, successors: &[u32]) -> Result<(), WorkerFault>
         requires { 0 < length successors.now }
         ensures added { OnOk result (self.new ≡ record self.old {
@@ -127,9 +127,9 @@ impl Worker {
         Ok(())
     }
 
-    /// Joins an update with the map. True if and only if the value rose. It fails with `BadUpdate` if and only if the
-    /// vertex isn't below the number of vertices or the measure doesn't fit the bounds; then nothing has changed. It
-    /// takes no memory.
+    /// Joins an update with the map. Returns true if and only if the measure of the vertex rose. It fails with `BadUpdate`
+    /// if and only if the vertex isn't below the number of vertices or the measure doesn't fit the bounds; then nothing has
+    /// changed. It takes no memory.
     pub fn take(&mut self, update: &Update) -> Result<bool, WorkerFault>
         ensures taken { IfOk result (Takes self.old self.new update.now.vertex update.now.measure.value) }
         ensures ok { IsOk result ↔ CanTake self.old update.now.vertex update.now.measure.value }
@@ -139,7 +139,7 @@ impl Worker {
         self.take_value(update.vertex.0, update.measure.view())
     }
 
-    /// As `take`, for a vertex number and a borrowed measure.
+    /// Joins the measure of a vertex, given by its number and a borrowed measure, as `take` does.
     pub fn take_value(&mut self, vertex: u32, measure: View) -> Result<bool, WorkerFault>
         ensures taken { IfOk result (Takes self.old self.new vertex (measure_in measure.entry)) }
         ensures ok { IsOk result ↔ CanTake self.old vertex (measure_in measure.entry) }
@@ -152,8 +152,9 @@ impl Worker {
         Ok(self.lifter.take(Vertex(vertex), measure))
     }
 
-    /// Lifts a vertex of the part. None if the vertex is served. It fails with `NotMine` if and only if the vertex is
-    /// outside the part, and otherwise only if there is no memory for the update; then nothing has changed.
+    /// Lifts a vertex of the part, and returns the update. Returns None if the vertex is served. It fails with `NotMine` if
+    /// and only if the vertex is outside the part, and otherwise only if there is no memory for the update; then nothing
+    /// has changed.
     pub fn lift(&mut self, v: Vertex) -> Result<Option<Update>, WorkerFault>
         ensures lifted { IfOk result (λ o. IfSome o (λ u. (u.vertex ≡ v) × Lifts self.old self.new (u ∷ []))) }
         ensures served { IfOk result (λ o. IfNone o
@@ -191,8 +192,8 @@ impl Worker {
         Ok(Lifted { quiet, updates })
     }
 
-    /// As `lift_some`, but without updates, and so without taking memory. `lifted` has the vertices that this turn
-    /// lifted. The answer is whether no vertex of the part can be lifted.
+    /// Makes lifts as `lift_some` does, but without updates, and so without taking memory. After that `lifted` has the
+    /// vertices that this turn lifted. Returns whether no vertex of the part can be lifted.
     pub fn lift_turn(&mut self, budget: u32) -> bool
         ensures { IsListedTurn self.old self.new budget result }
     {
@@ -202,7 +203,7 @@ impl Worker {
         quiet
     }
 
-    /// The measure of a vertex.
+    /// Returns the measure of a vertex, which must be below the number of vertices.
     pub fn get(&self, v: Vertex) -> View<'_>
         requires { v < length self.now.map }
         ensures value { measure_in result ≡ measure_at self.now.map v }
@@ -212,7 +213,7 @@ impl Worker {
         lifter.map.get(v)
     }
 
-    /// The number of vertices of the game.
+    /// Returns the number of vertices of the game.
     pub fn len(&self) -> u32
         ensures value { result ≡ length self.now.map }
         ensures worker { IsWorker self.now }
@@ -220,7 +221,7 @@ impl Worker {
         self.lifter.len()
     }
 
-    /// The bounds of the measures.
+    /// Returns the bounds of the measures.
     pub fn bounds(&self) -> &Bounds
         ensures { result.now ≡ self.now.bounds }
     {
@@ -234,15 +235,16 @@ impl Worker {
         self.lifter.holds(v)
     }
 
-    /// The updates of a `lift_some` that failed, in the order in which they were made. There are none before the first
-    /// one, and none after one that succeeded.
+    /// Returns the updates of a `lift_some` that failed, in the order in which they were made. There are none before the
+    /// first one, and none after one that succeeded.
     pub fn kept(&self) -> &[Update]
         ensures { result.now ≡ self.now.kept }
     {
         &self.kept
     }
 
-    /// The vertices that the last `lift_turn` lifted, each once, rising. There are none before the first one.
+    /// Returns the vertices that the last `lift_turn` lifted, each once, in rising order. There are none before the first
+    /// one.
     pub fn lifted(&self) -> &[Vertex]
         ensures { result.now ≡ self.now.lifted }
     {

@@ -1,10 +1,10 @@
-//! Cuts. More are shown by the rows of `replay`.
+//! Cuts. The rows of `replay` show more of them.
 
 use pg_arena::Vertex;
 use pg_worker::Cut;
 use std::test::Fail;
 
-/// Whether the vertex is there and belongs to this worker.
+/// Whether the vertex exists and belongs to this worker.
 fn gives(cut: &Cut, v: u32, worker: u32) -> bool {
     (v as usize) < cut.vertices() && cut.worker_of(Vertex(v)) == worker
 }

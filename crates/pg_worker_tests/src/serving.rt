@@ -1,5 +1,5 @@
-//! Sessions and serving, on bytes that were worked out by hand. What a worker program replies over a connection, and what it refuses, is
-//! shown by `tests/serving.py`.
+//! Sessions and serving, on bytes that were worked out by hand. `tests/serving.py` shows what a worker program replies over
+//! a connection, and what it refuses.
 
 use crate::texts::{LINES, SETUP, bytes_of};
 use pg_wire::{WireFault, decode};
@@ -16,7 +16,8 @@ const HALT: &str = "00000001 06";
 const SPARSE: &str =
     "0000001f 07 00000002 00000002 00000000 00 00000001 00000001 00000001 00000001 01";
 
-/// What is replied to a set-up, and to a turn of one lift with these values: vertex 0 rises to `1,0`, and there is more to lift.
+/// The replies to a set-up, and to a turn of one lift with these values: vertex 0 rises to `1,0`, and there is more to
+/// lift.
 const REPLY: &str = "00000003 05 01 00 \
      0000001a 07 00000002 00000001 00000000 00 00000001 00000000 00000001 \
      00000003 05 00 00";
@@ -32,7 +33,7 @@ fn takes_rows(alloc: Global, session: &mut Session, rows: &str) -> Result<bool, 
     Ok(session.rows_from(&bytes_of(alloc, rows)?) == Ok(true))
 }
 
-/// What the session answers to this frame; where it takes rows alone it leaves it as it is.
+/// Returns the session's answer to this frame, or None if the frame is refused or `rows_from` doesn't leave it alone.
 fn takes(
     alloc: Global,
     session: &mut Session,
@@ -46,7 +47,7 @@ fn takes(
     Ok(session.frame_from(&bytes, out).ok())
 }
 
-/// Whether the session takes these frames and rows, one after the other.
+/// Whether the session takes these frames and rows, one after another.
 fn takes_each(alloc: Global, session: &mut Session, out: &mut Vec<u8>) -> Result<bool, Fail> {
     Ok(
         is_set_up(alloc, session, out)?
@@ -57,7 +58,7 @@ fn takes_each(alloc: Global, session: &mut Session, out: &mut Vec<u8>) -> Result
     )
 }
 
-/// Whether a new session takes them; it appends its replies.
+/// Whether a new session takes them. Appends its replies.
 fn replies(alloc: Global, out: &mut Vec<u8>) -> Result<bool, Fail> {
     let mut session = Session::new(alloc);
     takes_each(alloc, &mut session, out)
@@ -72,7 +73,7 @@ fn takes_frames_and_rows(rt: HostRuntime) -> Result<(), Fail> {
     Ok(())
 }
 
-/// Takes a byte at a time, and fails at one write and at each after it.
+/// Takes one byte at a time, and fails at one write and at each later one.
 #[derive(Drop)]
 struct Full {
     before: usize,
@@ -92,7 +93,7 @@ impl Write for Full {
     }
 }
 
-/// How serving these bytes ends where a write fails once so many bytes were written.
+/// Returns how serving these bytes ends if writes fail once `before` bytes were written.
 fn end_of_serving(alloc: Global, input: &[u8], before: usize) -> Result<Served, WorkerFault> {
     let mut input = input;
     serve(alloc, &mut input, &mut Full { before })

@@ -8,7 +8,7 @@ pub const SETUP: &str = "0000001a 01 02 00000002 00000002 00000003 00000001 0000
 
 pub const LINES: &str = "00000016 02 00000001 00000000 00000001 00 00000001 00000000";
 
-/// The bytes of a text, in which blanks may stand between bytes.
+/// Returns the bytes of a text, which may have blanks between bytes.
 pub fn bytes_of(alloc: Global, text: &str) -> Result<Vec<u8>, Fail> {
     let mut bytes = Vec::new(alloc);
     for part in text.split(' ') {

@@ -9,7 +9,7 @@ use pg_worker::{Worker, WorkerFault};
 use std::alloc::Global;
 use std::test::Fail;
 
-/// The worker that a frame sets up.
+/// Returns the worker that a frame sets up.
 fn set_up(alloc: Global, frame: &Frame) -> Result<Worker, Fail> {
     if !frame.is_well() {
         return Err("the frame is well".into());
@@ -30,7 +30,7 @@ fn add_frame(worker: &mut Worker, frame: &Frame) -> Result<(), WorkerFault> {
     }
 }
 
-/// The frame that the text spells.
+/// Returns the frame that the text spells.
 fn frame_of(alloc: Global, text: &str) -> Result<Frame, Fail> {
     Ok(decode(alloc, &bytes_of(alloc, text)?)?)
 }
@@ -51,7 +51,7 @@ fn are(worker: &Worker, first: View, second: View) -> bool {
     worker.len() == 2 && worker.get(Vertex(0)) == first && worker.get(Vertex(1)) == second
 }
 
-/// Whether vertex 0 climbs to `1,1` by one lift of each call that lifts.
+/// Whether vertex 0 climbs to `1,1` by one lift in each call that lifts.
 fn climbs(worker: &mut Worker) -> Result<bool, WorkerFault> {
     let update = worker.lift(Vertex(0))?;
     let lifted = worker.lift_some(1)?;
@@ -66,7 +66,7 @@ fn climbs(worker: &mut Worker) -> Result<bool, WorkerFault> {
     )
 }
 
-/// Whether top is taken for vertex 1, and nothing rises by it again; and vertex 0 ends at top.
+/// Whether the worker takes top for vertex 1, and the same update raises nothing again; and vertex 0 ends at top.
 fn ends_at_top(alloc: Global, worker: &mut Worker) -> Result<bool, WorkerFault> {
     let update = Update {
         vertex: Vertex(1),
@@ -78,7 +78,7 @@ fn ends_at_top(alloc: Global, worker: &mut Worker) -> Result<bool, WorkerFault> 
     Ok(rises && !rises_again && is_quiet && are(worker, View::Top, View::Top))
 }
 
-/// Whether the worker, once it has the line of vertex 0, lifts and takes values as it has to.
+/// Whether the worker, once it has the line of vertex 0, lifts and takes values as it should.
 fn lifts_and_takes(alloc: Global, worker: &mut Worker) -> Result<bool, Fail> {
     add_line(alloc, worker)?;
     let is_part = worker.holds(Vertex(0)) && !worker.holds(Vertex(1));

@@ -1,4 +1,4 @@
--- What is proved of worlds and scripts, over the definitions alone.
+-- Laws of worlds and scripts, stated by the definitions alone.
 use Rattle.std.specs.Prelude.{◌≡◌, ℕ, ◌≤◌, List, All, Contains}
 use Rattle.pg_arena.specs.Games.{GameVertex, IsGame}
 use Rattle.pg_measure.specs.Measures.{BoundList, MeasureValue}
@@ -16,14 +16,14 @@ abbrev pub AreTakenToo : BoundList → List UpdateValue → List ℕ → List Up
 AreTakenToo bounds updates numbers updates' numbers' =
     (n : ℕ) → Contains numbers n → (m : ℕ) × Contains numbers' m × (update_at bounds updates' m ≡ update_at bounds updates n)
 
--- Where the same updates are taken the maps are equal, whatever the order, the repeats and the lists of updates.
+-- If the same updates are taken, the maps are equal, whatever the order, the repeats and the lists of updates.
 abbrev pub SameTaken : Type 0
 SameTaken =
     (bounds : BoundList) (count : ℕ) (updates updates' : List UpdateValue) (numbers numbers' : List ℕ) (f g : List MeasureValue)
     → AreTakenToo bounds updates numbers updates' numbers' → AreTakenToo bounds updates' numbers' updates numbers
     → IsJoinOf bounds count updates numbers f → IsJoinOf bounds count updates' numbers' g → f ≡ g
 
--- After any list of events, each replica has a map, the join of the updates that it took, and that is never above the
+-- After any list of events, each replica has a map, the join of the updates that it took, and that map is never above the
 -- least progress measure.
 abbrev pub NeverAbove : Type 0
 NeverAbove =
@@ -32,7 +32,7 @@ NeverAbove =
     → Runs (new_world game bounds cut) events w
     → (f : List MeasureValue) × IsMapOf w r f × IsNeverAbove bounds (game_line game) f
 
--- For one game one text spells one script.
+-- For a given game, a text spells at most one script.
 abbrev pub SpellsOneScript : Type 0
 SpellsOneScript = (bytes : List ℕ) (game : List GameVertex) (cut other : CutValue) (events others : List Event)
     → IsGame game → IsScriptText bytes game cut events → IsScriptText bytes game other others

@@ -1,4 +1,4 @@
--- What a script text is, by tokens: how many workers there are, perhaps the worker of each vertex, and events.
+-- Script texts, as tokens: the number of workers, perhaps the worker of each vertex, and events.
 use Rattle.std.specs.Prelude.{◌≡◌, ℕ, ◌≤◌, List, [], ◌∷◌, ◌++◌, Option, Some, None, All, length, codes}
 use Rattle.std.specs.List.{flat_map}
 use Rattle.pg_arena.specs.Games.{GameVertex, identifier}
@@ -30,15 +30,15 @@ head_lexemes workers numbers = clause_lexemes (codes "workers") (Some workers) +
 abbrev pub events_lexemes : List GameVertex → List Event → List Lexeme
 events_lexemes game events = flat_map (event_lexemes game) events ++ end ∷ []
 
--- The cut is that of the numbers that stand, one for each vertex by rising identifier, each the number of a worker; or
--- the even one where none stand.
+-- The cut has the numbers in the text, one for each vertex by rising identifier, each the number of a worker; or it is the
+-- even cut if the text has none.
 abbrev pub IsCutOf : List GameVertex → Option (List ℕ) → CutValue → Type 0
 IsCutOf game None cut = IsEvenCut (length game) cut.workers cut
 IsCutOf game (Some numbers) cut =
     (cut.numbers ≡ numbers) × (length numbers ≡ length game) × NameWorkers cut.workers numbers
 
--- The bytes spell the cut and the events for the game: the number of workers, at most 16, perhaps a line of the cut,
--- and then a line for each event, in this order, whose vertices are of the game. Nothing else stands there.
+-- The bytes spell the cut and the events for the game: the number of workers, at most 16, perhaps a line of the cut, and
+-- then a line for each event, in this order, with vertices of the game. They spell nothing else.
 pub record IsScriptText (bytes : List ℕ) (game : List GameVertex) (cut : CutValue) (events : List Event)
     : Type 0 where
   pub numbers : Option (List ℕ)

@@ -9,7 +9,7 @@ pub record UpdateValue : Type 0 where
   pub vertex : ℕ
   pub measure : MeasureValue
 
--- what an update of a map shows
+-- the content of an update of a map
 abbrev pub update_value : Update → UpdateValue
 update_value u = record { vertex = u.vertex; measure = u.measure.value }
 

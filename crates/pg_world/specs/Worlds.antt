@@ -13,7 +13,7 @@ use Rattle.pg_world.specs.declared.fault.WorldFault.{WorldFault}
 use Rattle.pg_world.specs.declared.fault.WorldFault.TheVariants.{OutOfMemory, NoSuchReplica, NotMine, NoSuchUpdate, CutMismatch}
 
 -- A world: its game, the game's bounds, the cut among workers, the updates ever made in their order, and for each replica
--- the numbers of those that it took since its last restart, in order, its own included. Replica 0 is the coordinator.
+-- the numbers of those that it took since its last restart, in order, including its own. Replica 0 is the coordinator.
 pub record WorldValue : Type 0 where
   pub game : List GameVertex
   pub bounds : BoundList
@@ -26,7 +26,7 @@ abbrev pub new_world : List GameVertex → BoundList → CutValue → WorldValue
 new_world game bounds cut =
     record { game = game; bounds = bounds; cut = cut; updates = []; taken = replicate (1 + cut.workers) [] }
 
--- what the replica r took
+-- the numbers of the updates that the replica r took
 abbrev pub taken_of : WorldValue → ℕ → List ℕ
 taken_of w r = slice_index_or w.taken r []
 
@@ -38,7 +38,7 @@ IsMapOf w r f = IsJoinOf w.bounds (length w.game) w.updates (taken_of w r) f
 abbrev pub taking : WorldValue → ℕ → ℕ → WorldValue
 taking w r n = record w { taken = slice_set w.taken r (taken_of w r ++ n ∷ []) }
 
--- the replica r forgets what it took
+-- the replica r forgets every update that it took
 abbrev pub forgetting : WorldValue → ℕ → WorldValue
 forgetting w r = record w { taken = slice_set w.taken r [] }
 
@@ -46,7 +46,7 @@ forgetting w r = record w { taken = slice_set w.taken r [] }
 abbrev pub making : WorldValue → ℕ → UpdateValue → WorldValue
 making w r u = record (taking w r (length w.updates)) { updates = w.updates ++ u ∷ [] }
 
--- The lift of v in the map f: where v is served there, nothing happens; else the least measure that serves it is made.
+-- The lift of v in the map f: if v is served there, nothing happens; otherwise the least measure that serves it is made.
 abbrev pub LiftsIn : List MeasureValue → WorldValue → ℕ → ℕ → WorldValue → Type 0
 LiftsIn f old r v new =
     (IsServed old.bounds (game_line old.game) f v × (new ≡ old))
@@ -57,7 +57,7 @@ LiftsIn f old r v new =
 abbrev pub Lifts : WorldValue → ℕ → ℕ → WorldValue → Type 0
 Lifts old r v new = (f : List MeasureValue) × IsMapOf old r f × LiftsIn f old r v new
 
--- what an event makes of a world
+-- the world after an event
 abbrev pub Steps : WorldValue → Event → WorldValue → Type 0
 Steps old (Lift worker v) new = Lifts old worker v new
 Steps old (Deliver replica n) new = new ≡ taking old replica n
@@ -68,7 +68,7 @@ Steps old (CoordinatorLift v) new = Lifts old 0 v new
 abbrev pub is_worker : WorldValue → ℕ → Bool
 is_worker w n = nat_lt 0 n && nat_le n w.cut.workers
 
--- why an event is refused, the first reason
+-- the first reason why an event is refused
 abbrev pub refusal : WorldValue → Event → Option WorldFault
 refusal w (Lift worker v) =
     if is_worker w worker then (if worker_of w.cut v == worker then None else Some (NotMine worker (identifier w.game v)))
@@ -79,7 +79,7 @@ refusal w (Deliver replica n) =
 refusal w (Restart worker) = if is_worker w worker then None else Some (NoSuchReplica worker)
 refusal w (CoordinatorLift v) = None
 
--- why an event is refused: for the reason against it; memory may run out
+-- an event is refused for the reason against it, or because memory runs out
 abbrev pub IsRefusedBy : WorldFault → Option WorldFault → Type 0
 IsRefusedBy OutOfMemory reason = Unit {0}
 IsRefusedBy fault reason = reason ≡ Some fault
@@ -96,13 +96,13 @@ abbrev pub Runs : WorldValue → List Event → WorldValue → Type 0
 Runs old [] new = new ≡ old
 Runs old (e ∷ es) new = (mid : WorldValue) × (refusal old e ≡ None) × Steps old e mid × Runs mid es new
 
--- The events before the place `at` went ahead and made `new` of `old`; the event there was refused.
+-- The events before the place `at` happened and led from `old` to `new`; the event there was refused.
 pub record StopsAt (old : WorldValue) (events : List Event) (at : ℕ) (fault : WorldFault) (new : WorldValue) : Type 0 where
   pub before : Runs old (take at events) new
   pub event : Event
   pub there : slice_get events at ≡ Some event
   pub refused : IsRefusedBy fault (refusal new event)
 
--- why a cut isn't one for a game
+-- why a cut doesn't fit a game
 abbrev pub cut_fault : List GameVertex → CutValue → Option WorldFault
 cut_fault game cut = if length cut.numbers == length game then None else Some CutMismatch

@@ -9,7 +9,7 @@ pub enum Event {
     Lift(u32, Vertex),
     /// The replica takes the update with this number; updates are numbered from 0 as they are made.
     Deliver(u32, usize),
-    /// The worker starts anew: it has taken nothing.
+    /// The worker starts anew, as if it had taken nothing.
     Restart(u32),
     /// The coordinator lifts a vertex, in its own map.
     CoordinatorLift(Vertex),

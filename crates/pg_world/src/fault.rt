@@ -6,10 +6,10 @@ ghost use Rattle.pg_world.specs.declared.fault.WorldFault.TheVariants.{OutOfMemo
 use std::alloc::{AllocError, AllocFailed};
 use thiserror::Error;
 
-/// Why a world can't be made, or refuses an event.
+/// Why a world can't be made, or why it refuses an event.
 #[derive(Clone, Copy, Debug, PartialEq, Eq, Error)]
 pub enum WorldFault {
-    /// A growth was refused.
+    /// The allocator refused a growth.
     #[error("out of memory")]
     OutOfMemory,
     /// There is no replica, or no worker, with this number.

@@ -2,7 +2,7 @@
 
 ghost use Rattle.pg_world.specs.Mirrors.MapLaws.{MapLaws};
 
-/// All of them. It does nothing.
+/// States all of these laws. It does nothing.
 pub fn of_maps()
     ensures { MapLaws }
 {

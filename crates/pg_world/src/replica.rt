@@ -1,4 +1,4 @@
-//! The map of a replica: at each vertex the measure of the greatest of its updates that the replica took.
+//! The map of a replica: at each vertex the measure of the greatest update of the vertex that the replica took.
 
 ghost use Rattle.std.specs.Prelude.{◌≡◌, ◌<◌, [], All, IfOk, MatchBool, MatchOption, length, map, replicate, slice_index_or, slice_set};
 ghost use Rattle.pg_arena.specs.Games.{IsGame, priority, owner, successors};
@@ -14,11 +14,11 @@ use pg_map::Update;
 use pg_measure::{Bounds, Measure};
 use std::alloc::{AllocError, Global};
 
-/// Stands for the number of an update where there is none. No update has it.
+/// The number that stands for no update. No update has this number.
 pub(crate) const NO_UPDATE: usize = usize::MAX;
 
-/// The map of a replica, lent: for each vertex the number of the greatest of its updates that the replica took, or
-/// `NO_UPDATE` where it took none, and shows zeros.
+/// The borrowed map of a replica: for each vertex the number of the greatest update of the vertex that the replica took, or
+/// `NO_UPDATE` if it took none; then the map shows zeros there.
 #[derive(Drop)]
 pub(crate) struct ReplicaMap<'a> {
     pub(crate) bounds: &'a Bounds,
@@ -28,7 +28,7 @@ pub(crate) struct ReplicaMap<'a> {
 }
 
 impl<'a> ReplicaMap<'a> {
-    /// The measure of a vertex.
+    /// Returns the measure of a vertex.
     pub(crate) fn measure(&self, v: Vertex) -> &'a Measure
         requires v { v < length self.now.greatest.now }
         requires zero { HasZero self.now }
@@ -40,7 +40,7 @@ impl<'a> ReplicaMap<'a> {
         }
     }
 
-    /// The measure to which a lift raises a vertex, or none where the vertex is served.
+    /// Returns the measure to which a lift raises a vertex, or None if the vertex is served.
     pub(crate) fn lift(&self, game: &Game, v: Vertex) -> Result<Option<Measure>, AllocError>
         requires game { IsGame game.now }
         requires size { length self.now.greatest.now ≡ length game.now }
@@ -60,7 +60,7 @@ impl<'a> ReplicaMap<'a> {
         Ok(if rises { Some(least) } else { None })
     }
 
-    /// The successor that decides about a vertex: the least for Even, the greatest for Odd.
+    /// Returns the successor that decides about a vertex: the least one for Even, the greatest one for Odd.
     fn best_of(&self, game: &Game, v: Vertex) -> Vertex
         requires game { IsGame game.now }
         requires size { length self.now.greatest.now ≡ length game.now }
@@ -82,8 +82,8 @@ impl<'a> ReplicaMap<'a> {
         best
     }
 
-    /// Whether the owner of a vertex of this priority would rather have its successor `a` than `b`; where they are alike,
-    /// either answer.
+    /// Whether the owner of a vertex with this priority prefers its successor `a` to `b`. If both are alike, the answer may
+    /// be either.
     fn is_better(&self, owner: Player, priority: u32, a: Vertex, b: Vertex) -> bool
         requires a { a < length self.now.greatest.now }
         requires b { b < length self.now.greatest.now }
@@ -104,7 +104,7 @@ impl<'a> ReplicaMap<'a> {
     }
 }
 
-/// For so many replicas, that none of them has an update of one of so many vertices.
+/// Returns, for the given numbers of replicas and vertices, that no replica has an update of any vertex.
 pub(crate) fn no_updates(
     alloc: Global,
     replicas: usize,
@@ -119,7 +119,7 @@ pub(crate) fn no_updates(
     Ok(greatest)
 }
 
-/// At the replica r the update with this number is the greatest of a vertex.
+/// Sets the update with this number as the greatest one of a vertex at the replica r.
 pub(crate) fn set_greatest(greatest: &mut Vec<Vec<usize>>, r: usize, v: Vertex, number: usize)
     requires r { r < length greatest.old.items }
     requires v { v < length (slice_index_or (map (λ g. g.items) greatest.old.items) r []) }
@@ -130,7 +130,7 @@ pub(crate) fn set_greatest(greatest: &mut Vec<Vec<usize>>, r: usize, v: Vertex, 
     greatest[r][v.0 as usize] = number;
 }
 
-/// Takes away the updates that were taken, and so all that there are.
+/// Clears the numbers of the updates that were taken, which are all numbers that there are.
 pub(crate) fn clear(greatest: &mut [usize], updates: &[Update], taken: &[usize])
     requires taken { All (λ n. n < length updates.now) taken.now }
     requires vertices { All (λ u. u.vertex < length greatest.old) updates.now }

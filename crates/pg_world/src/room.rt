@@ -1,11 +1,11 @@
-//! Growth ahead of a change, so that the change can't fail half way.
+//! Growth before a change, so that the change can't fail half way.
 
 ghost use Rattle.std.specs.Prelude.{◌≡◌, ◌<◌, ◌∷◌, ◌++◌, [], OnOk, IfSome, length, map, vec_len, vec_capacity, slice_get, slice_set, slice_index_or};
 
 use pg_map::Update;
 use std::alloc::AllocError;
 
-/// Room for one more update, and for its number among those that the replica r took.
+/// Makes room for one more update, and for its number among those that the replica r took.
 pub(crate) fn make_room(
     updates: &mut Vec<Update>,
     taken: &mut Vec<Vec<usize>>,
@@ -22,7 +22,7 @@ pub(crate) fn make_room(
     Ok(())
 }
 
-/// Adds an update where there is room for it.
+/// Adds an update, for which there is room.
 pub(crate) fn push_in_room(updates: &mut Vec<Update>, update: Update)
     requires { vec_len updates.old < vec_capacity updates.old }
     ensures { updates.new.items ≡ updates.old.items ++ update ∷ [] }
@@ -30,7 +30,7 @@ pub(crate) fn push_in_room(updates: &mut Vec<Update>, update: Update)
     let _pushed = updates.push(update);
 }
 
-/// Adds a number to those that the replica r took, where there is room for it.
+/// Adds a number, for which there is room, to those that the replica r took.
 pub(crate) fn note(taken: &mut Vec<Vec<usize>>, r: usize, number: usize)
     requires r { r < length taken.old.items }
     requires place { IfSome (slice_get taken.old.items r) (λ t. vec_len t < vec_capacity t) }
@@ -41,7 +41,7 @@ pub(crate) fn note(taken: &mut Vec<Vec<usize>>, r: usize, number: usize)
     let _pushed = taken[r].push(number);
 }
 
-/// The replica r has taken nothing.
+/// Forgets everything that the replica r took.
 pub(crate) fn forget(taken: &mut Vec<Vec<usize>>, r: usize)
     requires { r < length taken.old.items }
     ensures { map (λ t. t.items) taken.new.items ≡ slice_set (map (λ t. t.items) taken.old.items) r [] }

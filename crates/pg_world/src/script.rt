@@ -1,4 +1,4 @@
-//! Reading scripts: a cut and events.
+//! Reads scripts: a cut and events.
 
 ghost use Rattle.std.specs.Prelude.{◌≡◌, ◌≢◌, ℕ, ◌<◌, List, length, Option, option_map, IfOk, IfErr, IfSome, IfNone, MatchResult};
 ghost use Rattle.pg_arena.specs.Games.{IsGame, vertex_at};
@@ -17,7 +17,7 @@ use pg_text::reading::{clause, unexpected};
 use pg_worker::Cut;
 use std::alloc::{AllocError, Global};
 
-/// How many workers a script may name.
+/// The greatest number of workers in a script.
 const MAX_WORKERS: u32 = 16;
 
 /// A script: how the game is cut among workers, and the events.
@@ -27,7 +27,7 @@ pub struct Script {
     pub events: Vec<Event>,
 }
 
-/// The vertex with this identifier.
+/// Returns the vertex with this identifier. It fails with `NoVertex` if there is none.
 fn vertex(game: &Game, identifier: u32) -> Result<Vertex, ScriptFault>
     ensures found { IfOk result (λ v. (v < length game.now) × ((vertex_at game.now v).identifier ≡ identifier)) }
     ensures absent { IfErr result (λ _.
@@ -39,7 +39,7 @@ fn vertex(game: &Game, identifier: u32) -> Result<Vertex, ScriptFault>
     }
 }
 
-/// The event of a line.
+/// Returns the event of a line. It fails with `NoVertex` if no vertex has its identifier.
 fn event_of(game: &Game, line: ScriptLine) -> Result<Event, ScriptFault>
     ensures found { IfOk result (IsEventAt game.now line) }
     ensures none { IfErr result (λ _. (e : Event) → ¬ IsEventAt game.now line e) }
@@ -52,7 +52,8 @@ fn event_of(game: &Game, line: ScriptLine) -> Result<Event, ScriptFault>
     }
 }
 
-/// The cut among so many workers, with these numbers if there are any. None if they are no cut of the game.
+/// Returns the cut among `workers` workers, with these numbers if there are any, and the even cut otherwise. Returns None
+/// if the numbers are no cut of the game.
 fn cut_of(
     alloc: Global,
     game: &Game,
@@ -76,7 +77,7 @@ fn cut_of(
     }
 }
 
-/// The cut, and what stands behind its lines.
+/// Reads the cut, and returns it with the bytes after its lines.
 fn read_head<'a>(
     alloc: Global,
     game: &Game,
@@ -105,7 +106,7 @@ fn read_head<'a>(
     }
 }
 
-/// The events that stand here, up to the end of a text of `len` bytes.
+/// Reads the events from here up to the end of a text of `len` bytes.
 fn read_events(
     alloc: Global,
     game: &Game,
@@ -149,7 +150,7 @@ pub fn read_script(alloc: Global, game: &Game, bytes: &[u8]) -> Result<Script, S
         → MatchResult result (λ script. (script.cut ≡ cut) × (script.events.items ≡ events))
         (λ fault. fault ≡ OutOfMemory) }
 {
-    // asked for what its contract says of the game
+    // called for the facts about the game in its contract
     let _vertices = game.len();
     let (cut, rest) = read_head(alloc, game, bytes)?;
     let events = read_events(alloc, game, bytes.len(), rest)?;

@@ -14,16 +14,16 @@ use std::fmt;
 /// the end of the text is the text's length.
 #[derive(Clone, Copy, Debug, PartialEq, Eq)]
 pub enum ScriptFault {
-    /// A growth was refused.
+    /// The allocator refused a growth.
     OutOfMemory,
-    /// No token begins at this offset, or the token there isn't one that may stand there.
+    /// No token begins at this offset, or the token there isn't allowed there.
     Syntax(usize),
     /// The number at this offset is over 4,294,967,295.
     NumberTooLarge(usize),
     /// No vertex of the game has this identifier.
     NoVertex(u32),
-    /// There are more than 16 workers, or the line of the cut doesn't have exactly one number for each vertex, or one
-    /// of its numbers is no worker's.
+    /// There are more than 16 workers, or the line of the cut doesn't have exactly one number for each vertex, or one of
+    /// its numbers isn't the number of a worker.
     CutMismatch,
 }
 
@@ -63,7 +63,7 @@ impl<T: Drop> From<AllocFailed<T>> for ScriptFault {
 }
 
 impl ScriptFault {
-    /// The fault in a text of this many bytes.
+    /// Returns a token's fault as the fault of a script in a text of `len` bytes.
     pub(crate) fn of_token(fault: TokenFault, len: usize) -> ScriptFault
         ensures { result ≡ fault_in len fault }
     {
@@ -73,7 +73,7 @@ impl ScriptFault {
         }
     }
 
-    /// The fault in a text of this many bytes.
+    /// Returns a refusal as the fault of a script in a text of `len` bytes.
     pub(crate) fn of_refusal(refusal: Refusal, len: usize) -> ScriptFault
         ensures { result ≡ refusal_in len refusal }
     {

@@ -8,7 +8,7 @@ use pg_text::reading::{Refusal, end, natural, numbers, semicolon, unexpected, wo
 use pg_text::tokens::TokenFault;
 use std::alloc::Global;
 
-/// A line as it stands in the text: a vertex is named by its identifier.
+/// A line of the text, which names a vertex by its identifier.
 #[derive(Clone, Copy)]
 pub(crate) enum ScriptLine {
     Lift(u32, u32),
@@ -17,7 +17,7 @@ pub(crate) enum ScriptLine {
     Central(u32),
 }
 
-/// A number and a semicolon.
+/// Reads a number and a semicolon.
 #[tactic(auto, unfolding(crate::specs::Mirrors::ScriptScan::one_at))]
 fn one(bytes: &[u8]) -> Result<(u32, &[u8]), TokenFault>
     ensures { Reads (λ x. (x.0, x.1.now)) result (one_at bytes.now) }
@@ -27,7 +27,7 @@ fn one(bytes: &[u8]) -> Result<(u32, &[u8]), TokenFault>
     Ok((number, rest))
 }
 
-/// Two numbers and a semicolon.
+/// Reads two numbers and a semicolon.
 #[tactic(auto, unfolding(crate::specs::Mirrors::ScriptScan::two_at))]
 fn two(bytes: &[u8]) -> Result<((u32, u32), &[u8]), TokenFault>
     ensures { Reads (λ x. (x.0, x.1.now)) result (two_at bytes.now) }
@@ -37,7 +37,7 @@ fn two(bytes: &[u8]) -> Result<((u32, u32), &[u8]), TokenFault>
     Ok(((first, second), rest))
 }
 
-/// The line whose word was read; `front` begins with that word, and `rest` is behind it.
+/// Reads the line whose word was read. `front` begins with that word, and `rest` is what follows it.
 #[tactic(auto, unfolding(crate::specs::Mirrors::ScriptScan::line_at))]
 fn line<'a>(front: &[u8], name: &[u8], rest: &'a [u8]) -> Result<(ScriptLine, &'a [u8]), TokenFault>
     ensures { Reads (λ x. (x.0, x.1.now)) result (line_at front.now name.now rest.now) }
@@ -59,7 +59,7 @@ fn line<'a>(front: &[u8], name: &[u8], rest: &'a [u8]) -> Result<(ScriptLine, &'
     }
 }
 
-/// A line, or nothing at the end of the text.
+/// Reads a line, or returns None at the end of the text.
 #[tactic(auto, unfolding(crate::specs::Mirrors::ScriptScan::next_line_at))]
 pub(crate) fn next_line(bytes: &[u8]) -> Result<(Option<ScriptLine>, &[u8]), TokenFault>
     ensures { Reads (λ x. (x.0, x.1.now)) result (next_line_at bytes.now) }
@@ -76,7 +76,7 @@ pub(crate) fn next_line(bytes: &[u8]) -> Result<(Option<ScriptLine>, &[u8]), Tok
     }
 }
 
-/// The numbers of the line of the cut, where one stands.
+/// Reads the numbers in the line of the cut, if there is one.
 #[tactic(auto, unfolding(crate::specs::Mirrors::ScriptScan::cut_at))]
 pub(crate) fn cut_numbers(alloc: Global, bytes: &[u8]) -> Result<(Option<Vec<u32>>, &[u8]), Refusal>
     ensures { Gives (λ x. (option_map (λ list. list.items) x.0, x.1.now)) result (cut_at bytes.now) }

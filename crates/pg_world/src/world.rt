@@ -22,10 +22,10 @@ use pg_worker::Cut;
 use std::alloc::Global;
 use std::marker::Model;
 
-/// A game cut among workers, with a coordinator: the updates that each of these replicas made, and those that it took.
+/// A game cut among workers, with a coordinator: the updates that these replicas made, and those that each of them took.
 /// Contracts see the game, its bounds, the cut, all updates ever made, and the numbers of those that each replica took
-/// since its last restart; its map is their join. Measures are totally ordered, so the map has at each vertex the
-/// greatest update of it that the replica took: `greatest` has its number, for each replica and vertex.
+/// since its last restart; its map is their join. Measures are totally ordered, so the map has at each vertex the greatest
+/// update of the vertex that the replica took: `greatest` has its number, for each replica and vertex.
 #[derive(Drop)]
 pub struct World {
     game: Game,
@@ -51,8 +51,8 @@ impl Model for World {
 }
 
 impl World {
-    /// Makes the world in which nothing has happened. It fails with `CutMismatch` if and only if the cut doesn't have
-    /// the vertices of the game, and otherwise only if memory runs out. It uses up game and cut in any case.
+    /// Makes the world in which nothing has happened. It fails with `CutMismatch` if and only if the cut doesn't have the
+    /// vertices of the game, and otherwise only if memory runs out. It uses up the game and the cut in any case.
     pub fn new(alloc: Global, game: Game, cut: Cut) -> Result<World, WorldFault>
         ensures new { IfOk result (λ w. IsBoundsOf game w.bounds × (w ≡ new_world game w.bounds cut)) }
         ensures cut { OnOk result (length cut.numbers ≡ length game) }
@@ -78,7 +78,7 @@ impl World {
         })
     }
 
-    /// The game.
+    /// Returns the game.
     pub fn game(&self) -> &Game
         ensures value { result.now ≡ self.now.game }
         ensures bounds { IsBoundsOf self.now.game self.now.bounds }
@@ -86,14 +86,15 @@ impl World {
         &self.game
     }
 
-    /// How many workers there are: the replicas 1, 2, .. Replica 0 is the coordinator.
+    /// Returns the number of workers. They are the replicas 1, 2, ..; replica 0 is the coordinator.
     pub fn workers(&self) -> u32
         ensures { result ≡ self.now.cut.workers }
     {
         self.cut.workers()
     }
 
-    /// The measure of a vertex in the map of a replica: the join of the updates that it took since its last restart.
+    /// Returns the measure of a vertex in the map of a replica: the join of the updates that the replica took since its
+    /// last restart. The replica must be at most the number of workers, and the vertex one of the game.
     pub fn map_of(&self, replica: u32, v: Vertex) -> View<'_>
         requires replica { replica ≤ self.now.cut.workers }
         requires v { v < length self.now.game }
@@ -106,8 +107,8 @@ impl World {
         self.map(replica).measure(v).view()
     }
 
-    /// The numbers of the updates that a replica took since its last restart, in order: its own are among them, and one that
-    /// it took twice stands twice.
+    /// Returns the numbers of the updates that a replica took since its last restart, in order. Its own are among them, and
+    /// one that it took twice appears twice. The replica must be at most the number of workers.
     pub fn taken_of(&self, replica: u32) -> &[usize]
         requires { replica ≤ self.now.cut.workers }
         ensures { result.now ≡ taken_of self.now replica }
@@ -115,15 +116,15 @@ impl World {
         &self.taken[replica as usize]
     }
 
-    /// The updates ever made, in order.
+    /// Returns the updates ever made, in order.
     pub fn updates(&self) -> &[Update]
         ensures { map update_value result.now ≡ self.now.updates }
     {
         &self.updates
     }
 
-    /// Makes an event happen. It fails if and only if the world refuses the event, with the reason, or memory runs out;
-    /// then the world is as before. The vertex of a lift must be one of the game.
+    /// Makes an event happen. It fails if and only if the world refuses the event, and then with the reason, or memory runs
+    /// out; the world is then as before. The vertex of a lift must be one of the game.
     pub fn step(&mut self, event: &Event) -> Result<(), WorldFault>
         requires { IsEventOf self.old.game event.now }
         ensures ok { OnOk result ((refusal self.old event.now ≡ None) × Steps self.old event.now self.new) }
@@ -138,8 +139,9 @@ impl World {
         }
     }
 
-    /// Lets events happen one after another, up to the first that is refused: then the answer is its place, from 0, with the
-    /// reason, and the world is the one before it.
+    /// Makes events happen one after another, up to the first one that is refused. It fails with the position of that
+    /// event, from 0, and the reason, and then the world is as it was before that event. The vertices of lifts must be
+    /// vertices of the game.
     pub fn run(&mut self, events: &[Event]) -> Result<(), (usize, WorldFault)>
         requires { All (IsEventOf self.old.game) events.now }
         ensures ok { OnOk result (Runs self.old events.now self.new) }
@@ -153,7 +155,7 @@ impl World {
         Ok(())
     }
 
-    /// The map of a replica.
+    /// Returns the map of a replica.
     fn map(&self, replica: u32) -> ReplicaMap<'_>
         requires { replica ≤ self.now.cut.workers }
         ensures bounds { result.bounds.now ≡ self.now.bounds }
@@ -171,7 +173,7 @@ impl World {
         }
     }
 
-    /// The worker lifts a vertex.
+    /// Lets the worker lift a vertex.
     fn lift(&mut self, worker: u32, v: Vertex) -> Result<(), WorldFault>
         requires { v < length self.old.game }
         ensures ok { OnOk result ((refusal self.old (Event.Lift worker v) ≡ None) × Lifts self.old worker v self.new) }
@@ -187,7 +189,7 @@ impl World {
         self.lift_in(worker, v)
     }
 
-    /// A replica lifts a vertex in its map.
+    /// Lets a replica lift a vertex in its map.
     fn lift_in(&mut self, replica: u32, v: Vertex) -> Result<(), WorldFault>
         requires v { v < length self.old.game }
         requires replica { replica ≤ self.old.cut.workers }
@@ -201,7 +203,7 @@ impl World {
         }
     }
 
-    /// A replica makes an update by a lift, and takes it.
+    /// Lets a replica make an update by a lift, and take it.
     fn make(&mut self, replica: u32, update: Update) -> Result<(), WorldFault>
         requires replica { replica ≤ self.old.cut.workers }
         requires v { update.vertex < length self.old.game }
@@ -220,7 +222,7 @@ impl World {
         Ok(())
     }
 
-    /// A replica takes an update.
+    /// Lets a replica take an update.
     fn deliver(&mut self, replica: u32, number: usize) -> Result<(), WorldFault>
         ensures ok { OnOk result ((refusal self.old (Event.Deliver replica number) ≡ None)
             × (self.new ≡ taking self.old replica number)) }
@@ -236,7 +238,7 @@ impl World {
         self.take(replica, number)
     }
 
-    /// A replica takes an update that was made.
+    /// Lets a replica take an update that was made.
     fn take(&mut self, replica: u32, number: usize) -> Result<(), WorldFault>
         requires replica { replica ≤ self.old.cut.workers }
         requires number { number < length self.old.updates }
@@ -256,7 +258,7 @@ impl World {
         Ok(())
     }
 
-    /// Whether an update is above what a replica has at its vertex.
+    /// Whether an update is above the replica's measure at its vertex.
     fn raises(&self, replica: u32, number: usize) -> bool
         requires replica { replica ≤ self.now.cut.workers }
         requires number { number < length self.now.updates }
@@ -268,7 +270,7 @@ impl World {
         here.cmp(&update.measure).is_lt()
     }
 
-    /// A worker starts anew.
+    /// Starts a worker anew.
     fn restart(&mut self, worker: u32) -> Result<(), WorldFault>
         ensures ok { OnOk result ((refusal self.old (Event.Restart worker) ≡ None)
             × (self.new ≡ forgetting self.old worker)) }
@@ -286,7 +288,7 @@ impl World {
     }
 }
 
-/// For so many replicas, that they have taken nothing.
+/// Returns, for the given number of replicas, that they have taken nothing.
 fn nothing_taken(alloc: Global, replicas: usize) -> Result<Vec<Vec<usize>>, WorldFault>
     ensures taken { IfOk result (λ t. map (λ x. x.items) t.items ≡ replicate replicas []) }
     ensures memory { IfErr result (λ fault. fault ≡ WorldFault.OutOfMemory) }

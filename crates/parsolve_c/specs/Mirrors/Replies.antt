@@ -1,4 +1,4 @@
--- What is told of a command, before it is handed over.
+-- The reply to a command, before it is handed over.
 use Rattle.std.specs.Prelude.{◌≡◌, ◌≢◌, ℕ, List, None}
 use Rattle.parsolve_c.specs.declared.answering.Reply.{Reply}
 use Rattle.parsolve_c.specs.declared.answering.Reply.TheVariants.{Answer, FaultLine, NoCommand, OutOfMemory}

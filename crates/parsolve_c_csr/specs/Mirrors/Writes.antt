@@ -1,4 +1,4 @@
--- A solution that is being written into arrays.
+-- A solution while it is being written into arrays or read from them.
 use Rattle.std.specs.Prelude.{◌≡◌, ℕ, ◌<◌, ◌≤◌, List, length, slice_index}
 use Rattle.pg_text.specs.declared.answer.Answer.{Answer}
 use Rattle.pg_text.specs.Solutions.{answer_at}

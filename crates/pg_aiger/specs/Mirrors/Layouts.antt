@@ -1,4 +1,4 @@
--- The lines of a circuit text, one kind after another.
+-- The lines of a circuit text, kind by kind.
 use Rattle.std.specs.Prelude.{ℕ, Bool, true, false, not, List, [], ◌∷◌, length, map, take, if◌then◌else◌}
 use Rattle.std.specs.List.{items_where_true}
 use Rattle.pg_hoa_automaton.specs.Automata.{Automaton}
@@ -22,7 +22,7 @@ kind_of controlled = if controlled then output else input
 abbrev pub named : Kind → ℕ → List ℕ → Symbol
 named kind position name = record { kind = kind; position = position; name = name }
 
--- of the first so many propositions, the names of those that the controller sets, or of the others
+-- of the first `count` propositions, the names of those that the controller sets, or of the others
 abbrev pub names_until : Bool → Automaton → ℕ → List (List ℕ)
 names_until true a count = items_where_true (take count a.controllable) (take count a.propositions)
 names_until false a count = items_where_true (map not (take count a.controllable)) (take count a.propositions)

@@ -1,4 +1,4 @@
--- The gates of a table, which has a place for each state and input letter.
+-- The gates of a table that has a place for each state and input letter.
 use Rattle.std.specs.Prelude.{◌≡◌, ℕ, zero, suc, ◌+◌, ◌*◌, ◌/◌, ◌%◌, ◌^◌, ◌<◌, ◌==◌, Bool, false, ◌&&◌, ◌||◌, List, length, map, slice_index}
 use Rattle.std.specs.List.{range_with_len}
 use Rattle.pg_synth.specs.Machines.{Machine, reply}
@@ -20,12 +20,11 @@ outputs_below machine places = map (λ place. (reply_of machine place).output) (
 abbrev pub nexts_below : Machine → ℕ → List ℕ
 nexts_below machine places = map (λ place. (reply_of machine place).next) (range_with_len 0 places)
 
--- the valuation is of this state and input letter: k inputs from variable 1, then b latches
+-- the valuation has this state and input letter: k inputs from variable 1 on, then b latches
 abbrev pub IsAt : ℕ → ℕ → Valuation → ℕ → ℕ → Type 0
 IsAt k b v state letter = (number_at v (1 + k) b ≡ state) × (number_at v 1 k ≡ letter)
 
--- in every valuation of a state and a letter the latches' next literals spell the next state, and
--- the outputs the output letter
+-- in every valuation of a state and a letter, the latches' next literals spell the next state, and the outputs spell the output letter
 pub record IsBuiltFor (machine : Machine) (circuit : Circuit) : Type 0 where
   pub numbered : IsNumbered circuit
   pub inputs : length circuit.inputs ≡ machine.inputs
@@ -41,7 +40,7 @@ pub record IsBuiltFor (machine : Machine) (circuit : Circuit) : Type 0 where
 abbrev pub is_minterm : ℕ → ℕ → ℕ → Valuation → Bool
 is_minterm k b place v = (number_at v (1 + k) b == place / 2 ^ k) && (number_at v 1 k == place % 2 ^ k)
 
--- what the minterm of a place is the conjunction of
+-- the literals whose conjunction is the minterm of a place
 abbrev pub minterm_at : ℕ → ℕ → ℕ → List ℕ
 minterm_at inputs latches place = minterm_literals inputs latches (place / 2 ^ inputs) (place % 2 ^ inputs)
 
@@ -53,7 +52,7 @@ pub record MeanEach (draft : Drafted) (meanings : ℕ → Valuation → Bool) (l
   pub literal : (place : ℕ) → place < length literals → IsLiteral draft (slice_index literals place)
   pub meaning : (place : ℕ) → place < length literals → Means draft (slice_index literals place) (meanings place)
 
--- whether one of the first `count` places with the bit is that of the valuation
+-- whether, at one of the first `count` places, the value has the bit and the literal is true
 abbrev pub any_below : Valuation → List ℕ → List ℕ → ℕ → ℕ → Bool
 any_below v literals values j zero = false
 any_below v literals values j (suc count) =
@@ -64,7 +63,7 @@ any_below v literals values j (suc count) =
 abbrev pub column_bit : List ℕ → List ℕ → ℕ → Valuation → Bool
 column_bit literals values j v = any_below v literals values j (length literals)
 
--- The literals of the latches' next values and of the outputs are of the gates, and mean the columns of the replies.
+-- The latches' next literals and the outputs are literals of the gates, and mean the columns of the replies.
 pub record AreColumns (machine : Machine) (ns os : List ℕ) (gates : List Gate) : Type 0 where
   pub drafts : Drafted × Drafted × Drafted
   pub minterms : List ℕ

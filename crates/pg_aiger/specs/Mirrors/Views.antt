@@ -8,7 +8,7 @@ use Rattle.pg_aiger.specs.Circuits.{Circuit, IsNumbered, circuit_in_order}
 abbrev pub viewed : ℕ → List ℕ → List ℕ → List Gate → Circuit
 viewed inputs nexts outputs gates = circuit_in_order inputs nexts outputs gates
 
--- its inputs, latches and outputs are few, and its literals fit
+-- there are few inputs, latches and outputs, and the literals fit
 pub record IsKept (inputs : ℕ) (nexts outputs : List ℕ) (gates : List Gate) : Type 0 where
   pub few_inputs : inputs ≤ 16
   pub few_latches : length nexts ≤ 16

@@ -11,7 +11,7 @@ abbrev pub lane_value : List ℕ → ℕ → ℕ → Bool
 lane_value words lane literal =
     if nat_eq (literal % 2) 1 then not (bit (word_of words (literal / 2)) lane) else bit (word_of words (literal / 2)) lane
 
--- the word is that of the variable in each lane
+-- in each lane the word has the value of the variable
 abbrev pub IsWordFor : Circuit → ℕ → ℕ → ℕ → ℕ → Type 0
 IsWordFor circuit state first x word =
     (lane : ℕ) (v : Valuation) → lane < 64 → IsStepAt circuit state (first + lane) v → bit word lane ≡ v x

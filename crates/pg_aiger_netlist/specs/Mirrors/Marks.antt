@@ -12,14 +12,14 @@ marked row x = slice_index_or row x false
 abbrev pub AreMarked : List Bool → List ℕ → Type 0
 AreMarked row known = (x : ℕ) → (marked row x ≡ true) ↔ Contains known x
 
--- what is told of literals that define no variables of their own
+-- the faults of literals that don't define variables of their own
 abbrev pub IsFaultIn : ℕ → List ℕ → NetlistFault → Type 0
 IsFaultIn greatest literals OutOfMemory = Unit {0}
 IsFaultIn greatest literals (NotAVariable literal) = Contains literals literal × (IsPlain greatest literal → ⊥)
 IsFaultIn greatest literals (DefinedTwice x) = IsTwice (map variable literals) x
 IsFaultIn greatest literals fault = ⊥
 
--- what is told of literals that are used, if these variables are defined
+-- the faults of literals that are used, if these variables are defined
 abbrev pub IsUseFault : List Bool → List ℕ → NetlistFault → Type 0
 IsUseFault row uses (Undefined x) = ((literal : ℕ) × Contains uses literal × (variable literal ≡ x)) × (marked row x ≡ false)
 IsUseFault row uses fault = ⊥
@@ -27,26 +27,27 @@ IsUseFault row uses fault = ⊥
 abbrev pub variable_of : Gate → ℕ
 variable_of gate = variable gate.lhs
 
--- the gate's variables are below this
+-- the gate's variables are below the bound
 pub record IsWithin (bound : ℕ) (gate : Gate) : Type 0 where
   pub lhs : variable gate.lhs < bound
   pub rhs0 : variable gate.rhs0 < bound
   pub rhs1 : variable gate.rhs1 < bound
 
--- the gates in order are some of all, each over what is known before it, and the marks are what is known then
+-- the gates in order are some of all, each uses only variables that are known before it, and the marks are the variables that are known
+-- then
 pub record IsSorted (first : List ℕ) (all : List Gate) (known : List Bool) (ordered : List Gate) : Type 0 where
   pub marks : (x : ℕ) → (marked known x ≡ true) ↔ (Contains first x ⊎ Contains (map variable_of ordered) x)
   pub in_order : AreOrdered first ordered
   pub from : (gate : Gate) → Contains ordered gate → Contains all gate
 
--- the gate isn't in order yet, and it can't be put behind those that are
+-- the gate isn't in order yet, and it can't be appended to those that are
 pub record IsStuck (known : List Bool) (gate : Gate) : Type 0 where
   pub unknown : marked known (variable_of gate) ≡ false
   pub used : ℕ
   pub uses : IsUsedBy gate used
   pub waits : marked known used ≡ false
 
--- what a pass over gates makes of the marks and of the order, and which gates wait after it
+-- the marks and the order after a pass over gates, and the gates that wait after it
 pub record HasPassed (old : List Bool) (before gates : List Gate) (known : List Bool) (ordered waiting : List Gate) : Type 0 where
   pub as_long : length known ≡ length old
   pub grown : (x : ℕ) → marked old x ≡ true → marked known x ≡ true

@@ -1,4 +1,4 @@
--- What the functions that read the first line compute: a mirror of them for proofs, whose laws stand in proofs/.
+-- What the functions that read the first line compute: a mirror of them for proofs, whose laws are in proofs/.
 use Rattle.std.specs.Prelude.{ℕ, ◌+◌, ◌≤◌, ◌==◌, ◌&&◌, ◌||◌, Bool, List, [], ◌∷◌, Option, Some, None, nat_lt, nat_le, if◌then◌else◌}
 use Rattle.pg_hoa_automaton.specs.Mirrors.Steps.{◌>>=◌}
 use Rattle.pg_aiger_reader.specs.declared.fault.Section.{Section}
@@ -35,7 +35,7 @@ abbrev pub head : Form → ℕ → ℕ → ℕ → ℕ → ℕ → Header
 head form greatest inputs latches outputs gates =
     record { form = form; greatest = greatest; inputs = inputs; latches = latches; outputs = outputs; gates = gates }
 
--- where nothing is left out and it is within the limits
+-- the header, if nothing is left out and it is within the limits
 abbrev pub within : Form → ℕ → ℕ → ℕ → ℕ → ℕ → Option Section → Option Header
 within form m i l o a (Some section) = None
 within form m i l o a None =
@@ -49,7 +49,7 @@ header_of form ns = None
 unfoldable pub header_at : List ℕ → Option (Header × List ℕ)
 header_at bytes = form_at bytes >>= λ x. line_at 9 x.1 >>= λ y. header_of x.0 y.0 >>= λ h. Some (h, y.1)
 
--- what a header is refused for by name
+-- the named fault of a header, if it has one
 abbrev pub over : ℕ → ℕ → Option Section → Option ReaderFault
 over m o (Some section) = Some (LeftOut section)
 over m o None = if nat_lt 16777216 m || nat_lt 16777216 o then Some TooLarge else None
@@ -61,7 +61,7 @@ header_fault ns = None
 unfoldable pub fault_at : List ℕ → Option ReaderFault
 fault_at bytes = form_at bytes >>= λ x. line_at 9 x.1 >>= λ y. header_fault y.0
 
--- what the sections may count on
+-- what the sections can rely on
 pub record IsSmall (header : Header) : Type 0 where
   pub defined : header.inputs + header.latches + header.gates ≤ 16777216
   pub outputs : header.outputs ≤ 16777216

@@ -1,4 +1,4 @@
--- What the functions that read inputs, outputs, latches and gates compute: a mirror of them for proofs, whose laws stand in proofs/.
+-- What the functions that read inputs, outputs, latches and gates compute: a mirror of them for proofs, whose laws are in proofs/.
 use Rattle.std.specs.Prelude.{ℕ, suc, zero, ◌+◌, ◌*◌, ◌-◌, ◌^◌, ◌==◌, ◌||◌, List, [], ◌∷◌, Option, Some, None, nat_lt, if◌then◌else◌}
 use Rattle.pg_hoa_automaton.specs.Mirrors.Steps.{◌>>=◌}
 use Rattle.pg_aiger.specs.declared.gate.Gate.{Gate}
@@ -42,7 +42,7 @@ three_numbers _ = None
 unfoldable pub ascii_gate_at : List ℕ → Option (Gate × List ℕ)
 ascii_gate_at bytes = line_at 3 bytes >>= three_numbers
 
--- at most so many groups
+-- the number in at most the given number of groups
 unfoldable pub groups_at : ℕ → List ℕ → Option (ℕ × List ℕ)
 groups_at zero bytes = None
 groups_at (suc n) [] = None

@@ -1,4 +1,4 @@
--- What the functions that look for names say: contracts of private functions cite it.
+-- What the functions that search for names compute: contracts of private functions cite it.
 use Rattle.std.specs.Prelude.{◌≡◌, ◌≢◌, ℕ, ◌<◌, ◌==◌, ◌&&◌, Bool, true, false, List, [], length, map, get_or, nat_lt, if◌then◌else◌}
 use Rattle.std.specs.Str.{bytes_eq}
 use Rattle.std.proofs.Common.{Bor}
@@ -13,7 +13,7 @@ is_kind latch latch = true
 is_kind output output = true
 is_kind _ _ = false
 
--- a place, where one or none is known
+-- adds a place to one that is known, or to none
 abbrev pub also : Place → ℕ → Place
 also Missing place = At place
 also (At found) place = if found == place then At found else Twice
@@ -23,18 +23,18 @@ abbrev pub noted : Place → Kind → ℕ → List ℕ → Symbol → Place
 noted found kind count name s =
     if is_kind s.kind kind && nat_lt s.position count && bytes_eq s.name name then also found s.position else found
 
--- what symbols say of where a name stands
+-- the place that symbols give a name
 abbrev pub IsPlaceOf : Kind → ℕ → List Symbol → List ℕ → Place → Type 0
 IsPlaceOf kind count symbols name Missing = (place : ℕ) → ¬ IsNamed kind count symbols name place
 IsPlaceOf kind count symbols name (At p) = IsOnlyAt kind count symbols name p
 IsPlaceOf kind count symbols name Twice =
     (p : ℕ) × (q : ℕ) × (p ≢ q) × IsNamed kind count symbols name p × IsNamed kind count symbols name q
 
--- names without where they lie in memory
+-- names, apart from where they are in memory
 abbrev pub texts : List (Bor (List ℕ)) → List (List ℕ)
 texts names = map (λ name. name.now) names
 
--- the first so many names have places of their own
+-- the first `so_many` names have places of their own
 pub record AreGiven (kind : Kind) (count : ℕ) (symbols : List Symbol) (names : List (List ℕ)) (so_many : ℕ) (places : List ℕ) : Type 0 where
   pub all : length places ≡ so_many
   pub named : (k : ℕ) → k < so_many → IsNamed kind count symbols (get_or names k []) (get_or places k 0)

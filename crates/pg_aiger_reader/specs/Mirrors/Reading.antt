@@ -1,4 +1,4 @@
--- What the reader computes: a mirror of it for proofs, whose laws stand in proofs/.
+-- What the reader computes: a mirror of it for proofs, whose laws are in proofs/.
 use Rattle.std.specs.Prelude.{ℕ, suc, ◌+◌, ◌==◌, List, [], ◌∷◌, length, take, drop, Option, Some, None, codes, if◌then◌else◌}
 use Rattle.std.specs.Str.{bytes_eq}
 use Rattle.pg_hoa_automaton.specs.Mirrors.Steps.{◌>>=◌}
@@ -46,7 +46,7 @@ text_at bytes =
     symbols_at h.0 (length s.1 + 1) s.1 >>= λ symbols.
     Some (circuit_of h.0.greatest s.0 latches, symbols)
 
--- what a text is refused for by name
+-- the named fault of a text, if it has one
 unfoldable pub text_fault : List ℕ → Option ReaderFault
 text_fault bytes =
     first_named (fault_at (behind_verdict bytes))

@@ -1,4 +1,4 @@
--- What the functions that read compute: a mirror of them for proofs, whose laws stand in proofs/.
+-- What the functions that read compute: a mirror of them for proofs, whose laws are in proofs/.
 use Rattle.std.specs.Prelude.{ℕ, suc, zero, ◌^◌, ◌==◌, Bool, true, false, List, [], ◌∷◌}
 use Rattle.std.specs.Prelude.{drop, Option, Some, None, nat_lt, if◌then◌else◌}
 use Rattle.std.specs.List.{prefix_len, take_while}
@@ -7,7 +7,7 @@ use Rattle.pg_hoa_automaton.specs.Mirrors.Steps.{◌>>=◌}
 
 -- ---- lines of numbers
 
--- what stands behind a number: whether its line ends, and what follows
+-- what follows a number: whether its line ends, and the rest of the text
 abbrev pub ended : ℕ → List ℕ → Option (ℕ × Bool × List ℕ)
 ended n [] = None
 ended n (b ∷ rest) =
@@ -26,7 +26,7 @@ abbrev pub behind_field : (List ℕ → Option (List ℕ × List ℕ)) → ℕ �
 behind_field again (n, true, rest) = Some (n ∷ [], rest)
 behind_field again (n, false, rest) = again rest >>= λ x. Some (n ∷ x.0, x.1)
 
--- at most so many numbers
+-- a line of at most the given number of numbers
 unfoldable pub line_at : ℕ → List ℕ → Option (List ℕ × List ℕ)
 line_at zero bytes = None
 line_at (suc n) bytes = field_at bytes >>= behind_field (line_at n)

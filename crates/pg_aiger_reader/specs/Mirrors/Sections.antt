@@ -1,4 +1,4 @@
--- What the functions that read sections compute: a mirror of them for proofs, whose laws stand in proofs/.
+-- What the functions that read sections compute: a mirror of them for proofs, whose laws are in proofs/.
 use Rattle.std.specs.Prelude.{ℕ, suc, zero, ◌+◌, List, [], ◌∷◌, Option, Some}
 use Rattle.pg_hoa_automaton.specs.Mirrors.Steps.{◌>>=◌}
 use Rattle.pg_aiger.specs.declared.gate.Gate.{Gate}
@@ -8,7 +8,7 @@ use Rattle.pg_aiger_reader.specs.declared.item.LatchLine.{LatchLine}
 use Rattle.pg_aiger_reader.specs.declared.sections.Sections as declared
 use Rattle.pg_aiger_reader.specs.Mirrors.Items.{input_at, latch_at, gate_at}
 
--- so many items, one after another, each at its variable
+-- the given number of items, one after another, each with its variable
 unfoldable pub many_at : {A : Type 0} → (ℕ → List ℕ → Option (A × List ℕ)) → ℕ → ℕ → List ℕ → Option (List A × List ℕ)
 many_at item zero variable bytes = Some ([], bytes)
 many_at item (suc n) variable bytes =

@@ -1,4 +1,4 @@
--- Steps that may fail, and what a function that makes them answers: helpers of proofs.
+-- Steps that can fail, and the results of functions that make them: helpers of proofs.
 use Rattle.std.specs.Prelude.{◌≡◌, ℕ, ◌-◌, Option, Some, None, Result, Ok, Err}
 use Rattle.pg_aiger_reader.specs.declared.fault.ReaderFault.{ReaderFault}
 use Rattle.pg_aiger_reader.specs.declared.fault.ReaderFault.TheVariants.{OutOfMemory, Syntax, NumberTooLarge}
@@ -10,12 +10,12 @@ Fails (Syntax left) read = read ≡ None
 Fails (NumberTooLarge left) read = read ≡ None
 Fails _ read = ⊥
 
--- What a function returned, seen by view, is what reading gives, unless memory ran out.
+-- The result of a function, seen through `view`, is what reading gives, unless memory ran out.
 abbrev pub Gives : {X Y : Type 0} → (X → Y) → Result X ReaderFault → Option Y → Type 0
 Gives view (Ok x) read = read ≡ Some (view x)
 Gives view (Err e) read = Fails e read
 
--- the same of a function that names this fault, if it names one
+-- reading fails as a function refuses, unless memory ran out; if reading names a fault, it is the function's
 abbrev pub FailsAs : {Y : Type 0} → Option ReaderFault → ReaderFault → Option Y → Type 0
 FailsAs named OutOfMemory read = Unit {0}
 FailsAs named (Syntax left) read = (read ≡ None) × (named ≡ None)
@@ -31,7 +31,7 @@ abbrev pub first_named : Option ReaderFault → Option ReaderFault → Option Re
 first_named None later = later
 first_named (Some fault) later = Some fault
 
--- with an offset from the front, in a text of so many bytes
+-- with an offset from the start, in a text of `len` bytes
 abbrev pub turned : ℕ → ReaderFault → ReaderFault
 turned len (Syntax left) = Syntax (len - left)
 turned len (NumberTooLarge left) = NumberTooLarge (len - left)

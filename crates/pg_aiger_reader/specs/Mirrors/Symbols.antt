@@ -1,4 +1,4 @@
--- What the functions that read symbols compute: a mirror of them for proofs, whose laws stand in proofs/.
+-- What the functions that read symbols compute: a mirror of them for proofs, whose laws are in proofs/.
 use Rattle.std.specs.Prelude.{ℕ, suc, zero, ◌+◌, ◌==◌, ◌&&◌, Bool, true, false, List, [], ◌∷◌, length, drop, Option, Some, None, nat_lt}
 use Rattle.std.specs.Prelude.{if◌then◌else◌}
 use Rattle.std.specs.List.{prefix_len, take_while}
@@ -31,7 +31,7 @@ name_at bytes =
     then Some (take_while is_inner bytes, drop (prefix_len is_inner bytes + 1) bytes)
     else None
 
--- the name behind the position, if a space stands between
+-- the name after the position, if a space separates them
 abbrev pub named_at : Kind → ℕ × Bool × List ℕ → Option (Symbol × List ℕ)
 named_at kind (position, true, text) = None
 named_at kind (position, false, text) = name_at text >>= λ x. Some (symbol_of kind position x.0, x.1)
@@ -45,7 +45,7 @@ unfoldable pub good_at : Header → List ℕ → Option (Symbol × List ℕ)
 good_at header bytes =
     symbol_at bytes >>= λ x. if nat_lt x.0.position (count_in header x.0.kind) then Some x else None
 
--- fewer symbols than so many, up to the end or a comment
+-- fewer symbols than the given number, up to the end or a comment
 unfoldable pub symbols_at : Header → ℕ → List ℕ → Option (List Symbol)
 symbols_at header zero bytes = None
 symbols_at header (suc n) bytes =

@@ -1,5 +1,5 @@
 -- How games and builders keep their vertices: identifiers, entries and places of names side by side. The successors of
--- all of them stand in one list, and so do the names.
+-- all vertices are in one list, and so are the names.
 use Rattle.std.specs.Prelude.{◌≡◌, ℕ, ◌+◌, ◌<◌, ◌≤◌, ◌==◌, List, [], ◌∷◌, length, map, drop, Option, Some, None, slice_range, slice_get}
 use Rattle.std.specs.Prelude.{slice_index_or, option_map, All, MatchOption, IfSome, nat_eq}
 use Rattle.std.specs.List.{list_any, flat_map, IsDistinct}
@@ -16,7 +16,7 @@ use Rattle.pg_arena.specs.declared.limits.TheConstants.{MAX_PRIORITY, MAX_VERTIC
 use Rattle.pg_arena.specs.Games.{GameVertex, IsGame, IsWithinLimits, HasPrioritiesUpTo, opponent}
 use Rattle.pg_arena.specs.Lines.{Line}
 
--- what is kept of one vertex, with the place of its name
+-- the parts that are kept of one vertex, with the place of its name
 pub record Row : Type 0 where
   pub identifier : ℕ
   pub priority : ℕ
@@ -28,7 +28,7 @@ pub record Row : Type 0 where
 abbrev pub row_of : ℕ → Option ℕ → Entry → Row
 row_of identifier place e = record { identifier = identifier; priority = e.priority; owner = e.owner; from = e.from; to = e.to; name = place }
 
--- a vertex behind the last place has no name
+-- a vertex after the last place has no name
 abbrev pub place_at : List (Option ℕ) → ℕ → Option ℕ
 place_at places v = slice_index_or places v None
 
@@ -38,7 +38,7 @@ rows_in [] places entries = []
 rows_in (i ∷ identifiers) places [] = []
 rows_in (i ∷ identifiers) places (e ∷ entries) = row_of i (place_at places 0) e ∷ rows_in identifiers (drop 1 places) entries
 
--- the name that stands at a place
+-- the name at a place
 abbrev pub name_in : List (Vec ℕ Global) → Option ℕ → Option (List ℕ)
 name_in names None = None
 name_in names (Some k) = option_map (λ n. n.items) (slice_get names k)
@@ -55,14 +55,14 @@ vertex_in targets names r = record {
 abbrev pub vertices_in : List ℕ → List (Vec ℕ Global) → List Row → List GameVertex
 vertices_in targets names rows = map (vertex_in targets names) rows
 
--- each vertex's successors stand in the list of all
+-- each vertex's successors are in the list of all successors
 abbrev pub AreWithin : List ℕ → List Row → Type 0
 AreWithin targets rows = All (λ r. (r.from ≤ r.to) × (r.to ≤ length targets)) rows
 
 abbrev pub HaveRanges : List ℕ → List Entry → Type 0
 HaveRanges targets entries = All (λ e. (e.from ≤ e.to) × (e.to ≤ length targets)) entries
 
--- what a game keeps true of its vertices
+-- the invariant of a game's vertices
 pub record IsBuilt (identifiers targets : List ℕ) (names : List (Vec ℕ Global)) (rows : List Row) : Type 0 where
   pub ranges : AreWithin targets rows
   pub named : identifiers ≡ map (λ r. r.identifier) rows
@@ -70,22 +70,22 @@ pub record IsBuilt (identifiers targets : List ℕ) (names : List (Vec ℕ Globa
   pub limits : IsWithinLimits (vertices_in targets names rows)
   pub priorities : HasPrioritiesUpTo 65536 (vertices_in targets names rows)
 
--- and of the lists that say it
+-- the invariant of the lists that give a game's vertices
 pub record IsBuiltIn (identifiers targets : List ℕ) (names : List (Vec ℕ Global)) (places : List (Option ℕ)) (entries : List Entry) : Type 0 where
   pub as_many : length identifiers ≡ length entries
   pub built : IsBuilt identifiers targets names (rows_in identifiers places entries)
 
--- each vertex's name stands in the list of names
+-- each vertex's name is in the list of names
 abbrev pub AreNamed : List (Vec ℕ Global) → List Row → Type 0
 AreNamed names rows = All (λ r. IfSome r.name (λ k. k < length names)) rows
 
--- what an accepted line is, whatever the others are
+-- the properties of an accepted line, whatever the others are
 pub record IsOrderly (line : Line) : Type 0 where
   pub priority : line.priority ≤ MAX_PRIORITY
   pub goes_on : 0 < length line.successors
   pub rise : IsStrictlyIncreasing line.successors
 
--- what the lines of a builder keep true; their successors stand one line after another
+-- the invariant of a builder's lines; their successors come one line after another
 pub record AreKept (identifiers targets : List ℕ) (names : List (Vec ℕ Global)) (rows : List Row) : Type 0 where
   pub ranges : AreWithin targets rows
   pub named : AreNamed names rows
@@ -97,13 +97,13 @@ pub record AreKept (identifiers targets : List ℕ) (names : List (Vec ℕ Globa
   pub few_edges : length targets ≤ MAX_EDGES
   pub few_names : length names ≤ length rows
 
--- and of the lists that say it
+-- the invariant of the lists that give a builder's lines
 pub record AreKeptIn (identifiers targets : List ℕ) (names : List (Vec ℕ Global)) (places : List (Option ℕ)) (entries : List Entry) : Type 0 where
   pub as_many : length identifiers ≡ length entries
   pub few_places : length places ≤ length entries
   pub kept : AreKept identifiers targets names (rows_in identifiers places entries)
 
--- identifiers rise as long as they are in no set, and a set has just these
+-- the identifiers rise as long as there is no set, and a set has exactly these identifiers
 abbrev pub AreTold : List ℕ → Option (BTreeSet ℕ) → Type 0
 AreTold identifiers set = MatchOption set (IsStrictlyIncreasing identifiers)
     (λ s. (q : ℕ) → contains nat_cmp s q ≡ list_any (λ x. q == x) identifiers)
@@ -119,7 +119,7 @@ dual_row r = record r { owner = opponent r.owner; priority = r.priority + 1 }
 abbrev pub entry_at : List Entry → ℕ → Entry
 entry_at entries k = slice_index_or entries k (record { priority = 0; owner = Even; from = 0; to = 0 })
 
--- each line's identifier with its number, the first of which is given
+-- each line's identifier with the line's number, where the first number is given
 abbrev pub keys_from : ℕ → List ℕ → List Key
 keys_from k [] = []
 keys_from k (i ∷ identifiers) = record { identifier = i; line = k } ∷ keys_from (k + 1) identifiers

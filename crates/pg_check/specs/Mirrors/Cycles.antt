@@ -5,7 +5,7 @@ use Rattle.pg_text.specs.declared.answer.Answer.{Answer}
 use Rattle.pg_text.specs.Solutions.{loser}
 use Rattle.pg_check.specs.Soundness.{Counts}
 
--- v, then the rest and then v again by edges that count, and no priority on the way is greater than that of v
+-- a cycle of edges that count from v through the rest back to v, on which no priority is greater than that of v
 pub record IsCycleFrom (game : List GameVertex) (solution : List Answer) (v : ℕ) (rest : List ℕ) : Type 0 where
   pub closes : IsPath (Counts game solution) v (rest ++ v ∷ [])
   pub greatest : All (λ w. priority game w ≤ priority game v) rest
@@ -26,8 +26,8 @@ IsLost game solution v = HasParityOf (loser solution v) (priority game v)
 abbrev pub HasNoBadCycle : List GameVertex → List Answer → Type 0
 HasNoBadCycle game solution = (v : ℕ) → IsLost game solution v → HasNoCycle game solution v
 
--- Vertices in the order in which a search from v reached them, and for each but the first the place of the one before
--- it: an edge that counts leads from there. An edge that counts leads from the one at `end` back to v.
+-- Vertices in the order in which a search from v reached them, and for each but the first the place of the one before it: an edge
+-- that counts leads from there. An edge that counts also leads from the one at `end` back to v.
 pub record IsTrail (game : List GameVertex) (solution : List Answer) (v : ℕ) (reached before : List ℕ)
     (end : ℕ) : Type 0 where
   pub first : slice_index reached 0 ≡ v

@@ -1,4 +1,4 @@
--- A search by breadth for a cycle from a vertex, in its midst.
+-- A breadth-first search for a cycle from a vertex, while it is under way.
 use Rattle.std.specs.Prelude.{◌≡◌, ◌≢◌, ℕ, ◌<◌, ◌≤◌, Bool, true, false, List, length, slice_index, slice_index_or, All, AllPairs, Contains}
 use Rattle.pg_arena.specs.Games.{GameVertex, priority}
 use Rattle.pg_text.specs.declared.answer.Answer.{Answer}
@@ -19,7 +19,7 @@ pub record IsSearched (game : List GameVertex) (solution : List Answer) (v : ℕ
   pub steps : (k : ℕ) → 0 < k → k < length reached
       → (slice_index before k < k) × Counts game solution (slice_index reached (slice_index before k)) (slice_index reached k)
 
--- w doesn't close a cycle, and is reached if it may stand on one
+-- w doesn't close a cycle, and it is reached if it may be on one
 abbrev pub IsTaken : List GameVertex → ℕ → List ℕ → ℕ → Type 0
 IsTaken game v reached w = (w ≢ v) × (priority game w ≤ priority game v → Contains reached w)
 

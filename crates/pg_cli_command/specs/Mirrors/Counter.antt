@@ -14,7 +14,7 @@ use Rattle.pg_cli_command.specs.Small.{IsShaped}
 abbrev pub IsRefutedBy : Automaton → Circuit → Type 0
 IsRefutedBy a circuit = IsMoore circuit × ((condition : Formula) → FitsShape condition a.sets a.shape → IsRefutation a condition circuit)
 
--- and the circuit has the propositions of the automaton's counterpart
+-- the circuit has the propositions of the automaton's counterpart, and the automaton accepts no run of it
 abbrev pub IsCounterTo : Automaton → Automaton → Circuit → Type 0
 IsCounterTo a twin circuit = IsShaped twin circuit × IsRefutedBy a circuit
 

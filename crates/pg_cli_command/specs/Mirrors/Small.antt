@@ -7,7 +7,7 @@ use Rattle.pg_aiger.specs.Circuits.{Circuit, IsNumbered}
 use Rattle.pg_verify.specs.Verdicts.{IsCorrect}
 use Rattle.pg_cli_command.specs.Small.{IsShaped}
 
--- the circuit is in its order and within the limit, and has as many inputs and outputs as the other
+-- the circuit's variables are numbered in order and within the limit, and it has as many inputs and outputs as the other
 pub record IsShapedAs (other circuit : Circuit) : Type 0 where
   pub numbered : IsNumbered circuit
   pub within : circuit.greatest ≤ 1073741823

@@ -1,4 +1,4 @@
--- What is worked out for an automaton: the circuit where Even wins, and none where Odd does.
+-- The answer for an automaton: the circuit if Even wins, and none if Odd does.
 use Rattle.std.specs.Prelude.{◌≡◌, ℕ, List, ◌++◌, length, Option, None, Some}
 use Rattle.pg_hoa_automaton.specs.Automata.{Automaton}
 use Rattle.pg_synth.specs.Letters.{inputs, outputs}

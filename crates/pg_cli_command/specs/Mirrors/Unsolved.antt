@@ -6,7 +6,7 @@ use Rattle.pg_cli_command.specs.Solving.{IsUndecidedIn}
 use Rattle.pg_cli_command.specs.declared.fault.CliFault.{CliFault}
 use Rattle.pg_cli_command.specs.declared.fault.CliFault.TheVariants.{OutOfMemory, Undecided}
 
--- memory is wanting, or both maps are top at some vertex
+-- memory ran out, or both maps are top at some vertex
 abbrev pub IsUnsolved : MapKind → List GameVertex → CliFault → Type 0
 IsUnsolved Kind game OutOfMemory = Unit {0}
 IsUnsolved Kind game (Undecided id) = IsUndecidedIn Kind game id

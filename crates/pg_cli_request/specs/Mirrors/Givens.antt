@@ -8,7 +8,7 @@ abbrev pub input_of : Given → Input
 input_of (given.Whole text) = Whole text.items
 input_of (given.Apart pair first second) = Apart pair first.items second.items
 
--- a text that goes by the limit of one input keeps it
+-- one text as the whole input is within the limit of an input
 abbrev pub IsWithin : Given → Type 0
 IsWithin (given.Whole text) = length text.items ≤ 268435456
 IsWithin (given.Apart pair first second) = Unit {0}

@@ -1,10 +1,10 @@
--- What holds of the session and of the bytes that a link keeps.
+-- Facts about the session and the bytes that a link keeps.
 use Rattle.std.specs.Prelude.{◌≡◌, ◌≤◌, ℕ, Bool, true, List, length, drop, Option, None, IfSome}
 use Rattle.pg_worker.specs.Turns.{SessionValue}
 use Rattle.pg_worker.specs.Above.{AreFrames}
 use Rattle.pg_worker.specs.Mirrors.Sessions.{IsSmall}
 
--- what a link knows of its session, and of the bytes that wait behind those that were handed over
+-- facts that a link knows about its session, and about the bytes that wait after those that were received
 pub record IsKept (highest session_highest : ℕ) (held : Option SessionValue) (has_refused : Bool) (next : ℕ)
     (bytes : List ℕ) : Type 0 where
   pub highest_is : session_highest ≡ highest

@@ -18,12 +18,12 @@ pub record IsLineOf (t : TaskValue) (next : ℕ) (l : VertexLine) : Type 0 where
   pub well : IsVertexLine l
   pub line : told_line l ≡ vertex_line (vertex_at t.game l.vertex)
 
--- lines of vertices that rise, below `next`
+-- lines of vertices below `next`, by rising vertex
 pub record AreLines (t : TaskValue) (next : ℕ) (ls : List VertexLine) : Type 0 where
   pub lines : All (IsLineOf t next) ls
   pub rising : AllPairs (λ l m. l.vertex < m.vertex) ls
 
--- such lines stand in a frame that is being written, behind nothing else
+-- a frame that is being written has such lines, and nothing comes before it
 pub record AreWritten (t : TaskValue) (w : VerticesWriter) (next : ℕ) (ls : List VertexLine) (buffer : List ℕ) : Type 0 where
   pub writing : AreWriting w [] ls buffer
   pub lines : AreLines t next ls

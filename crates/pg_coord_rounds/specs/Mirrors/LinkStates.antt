@@ -1,4 +1,4 @@
--- What holds of the links and of their states.
+-- Facts about the links and their states.
 use Rattle.std.specs.Prelude.{◌≡◌, ℕ, ◌<◌, true, List, length, slice_index_or}
 use Rattle.pg_map.specs.Maps.{MapValue, MapAtMost}
 use Rattle.pg_coord_rounds.specs.declared.link_state.LinkState.{LinkState}
@@ -9,7 +9,7 @@ abbrev pub IsInStep : {L : Type 0} → (L → MapValue → Type 0) → TaskValue
 IsInStep under t map state link =
     state.in_use ≡ true → (h : MapValue) → IsClosedMap t h → MapAtMost map.measures h.measures → under link h
 
--- the same of each link
+-- each link in use is under every closed map that is at least the coordinator's
 abbrev pub AllInStep : {L : Type 0} → (L → MapValue → Type 0) → TaskValue → MapValue → List LinkState → List L → Type 0
 AllInStep {L} under t map states links =
     (k : ℕ) (d : L) (e : LinkState) → k < length links → IsInStep under t map (slice_index_or states k e) (slice_index_or links k d)

@@ -16,7 +16,7 @@ pub record SpellsMeasures (kind : ValueKind) (map : MapValue) (bytes : List ℕ)
   pub in_frame : measures_in (frame_of kind (length map.bounds) measures) ≡ measures
   pub of_map : All (λ m. m.1 ≡ measure_at map.measures m.0) measures
 
--- measures that vertices below `next` have in the map, rising
+-- measures that vertices below `next` have in the map, by rising vertex
 pub record AreSent (map : MapValue) (next : ℕ) (ms : List Measured) : Type 0 where
   pub of_map : All (λ m. m.1 ≡ measure_at map.measures m.0) ms
   pub fits : All (λ m. Fits map.bounds m.1) ms
@@ -26,7 +26,7 @@ pub record AreSent (map : MapValue) (next : ℕ) (ms : List Measured) : Type 0 w
   pub few : length ms ≤ next
   pub bound : next ≤ length map.measures
 
--- such measures stand in a frame that is being written, behind nothing else
+-- a frame that is being written has such measures, and nothing comes before it
 pub record IsWritten (map : MapValue) (w : ValuesWriter) (next : ℕ) (ms : List Measured) (buffer : List ℕ) : Type 0 where
   pub writing : IsWriting w [] ms buffer
   pub sent : AreSent map next ms

@@ -1,4 +1,4 @@
--- What is solved.
+-- The task that is solved.
 use Rattle.std.specs.Prelude.{◌≡◌, List, length}
 use Rattle.pg_arena.specs.Games.{GameVertex, IsGame}
 use Rattle.pg_measure.specs.Measures.{BoundList}

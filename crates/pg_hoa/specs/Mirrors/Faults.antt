@@ -9,7 +9,8 @@ use Rattle.pg_hoa_syntax.specs.declared.fault.Refusal.TheVariants as refusals
 use Rattle.pg_hoa.specs.declared.fault.Conflict.{Conflict}
 use Rattle.pg_hoa.specs.declared.fault.Conflict.TheVariants.{Memory, NotDeterministic}
 
--- in a text of so many bytes, where the part has how many are left in place of an offset
+-- the fault in a text of the given number of bytes; instead of an offset, the part has the number of bytes that are
+-- left
 abbrev pub in_text : ℕ → PartFault → HoaFault
 in_text len (Syntax left) = faults.Syntax (len - left)
 in_text len (LeftOut name left) = faults.LeftOut name (len - left)

@@ -1,4 +1,4 @@
--- What instructions do to a stack of truths of the letters of blocks.
+-- The effect of instructions on a stack of truths about the letters of blocks.
 use Rattle.std.specs.Prelude.{◌≡◌, ℕ, ◌+◌, ◌*◌, ◌<◌, ◌==◌, Bool, true, false, ◌&&◌, ◌||◌, List, [], ◌∷◌, if◌then◌else◌, bit_and}
 use Rattle.pg_hoa_syntax.specs.declared.formula.Op.{Op}
 use Rattle.pg_hoa.specs.declared.terms.Term.{Term}
@@ -26,7 +26,7 @@ execute_all (a ∷ instructions) b j stack = execute_all instructions b j (execu
 unfoldable pub executed : List Instruction → ℕ → ℕ → List Bool
 executed instructions b j = execute_all instructions b j []
 
--- the instructions tell what the label says
+-- the instructions leave what the label says
 abbrev pub Tells : List Op → List Instruction → Type 0
 Tells label instructions = (b j : ℕ) → b < 1024 → j < 64 → top (executed instructions b j) ≡ says label (on_at b j)
 

@@ -1,4 +1,4 @@
--- What a list of operations says: each takes its operands from a stack of truths, and leaves its own.
+-- What a list of operations says: each takes its operands from a stack of truths, and leaves its own truth there.
 use Rattle.std.specs.Prelude.{ℕ, Bool, true, false, ◌&&◌, ◌||◌, List, [], ◌∷◌, if◌then◌else◌}
 use Rattle.pg_hoa_syntax.specs.declared.formula.Op.{Op}
 use Rattle.pg_hoa_syntax.specs.declared.formula.Op.TheVariants.{Yes, No, Proposition, Inf, Fin, Not, Both, Either}
@@ -12,7 +12,7 @@ abbrev pub under : List Bool → List Bool
 under [] = []
 under (v ∷ stack) = stack
 
--- the stack behind one operation, where these propositions hold or these sets recur
+-- the stack after one operation, where these propositions hold or these sets recur
 abbrev pub perform : Op → (ℕ → Bool) → List Bool → List Bool
 perform Yes on stack = true ∷ stack
 perform No on stack = false ∷ stack

@@ -45,14 +45,15 @@ with_set MinEven (Some n) set = Some (min n set)
 with_set MinOdd (Some n) set = Some (min n set)
 with_set shape (Some n) set = Some (max n set)
 
--- with all of these
+-- the set that counts, with all of these sets
 abbrev pub with_sets : Shape → Option ℕ → List ℕ → Option ℕ
 with_sets shape counts [] = counts
 with_sets shape counts (set ∷ sets) = with_sets shape (with_set shape counts set) sets
 
 -- ---- filling
 
--- a table that is being filled, its first slot where steps don't agree, or how many slots there are, and the letters that are covered
+-- a table that is being filled, its first slot where steps don't agree, or the number of slots, and the letters that
+-- are covered
 pub record Stage : Type 0 where
   pub slots : List ℕ
   pub steps : List Stored
@@ -84,7 +85,7 @@ Leads t n (s ∷ steps) = numbered t.steps t.lists n ≡ Some s
 abbrev pub KeepsLists : Stage → Stage → Type 0
 KeepsLists t u = (place : ℕ) (list : List ℕ) → slice_get t.lists place ≡ Some list → slice_get u.lists place ≡ Some list
 
--- nothing but new steps and lists
+-- only steps and lists are added
 pub record Extends (t u : Stage) : Type 0 where
   pub slots : u.slots ≡ t.slots
   pub conflict : u.conflict ≡ t.conflict
@@ -105,7 +106,7 @@ has_key shape target counts s = (s.target == target) && same_set (deciding shape
 abbrev pub agree : Shape → Step → Step → Bool
 agree shape s t = has_key shape t.target (deciding shape t.sets) s
 
--- the same edges in another order, but that those of one key stand in theirs
+-- the same edges in another order, with the edges of one key in their own order
 abbrev pub IsRegrouped : Shape → List ℕ → List KeptEdge → List KeptEdge → Type 0
 IsRegrouped shape own edges order = (target : ℕ) (counts : Option ℕ)
     → filter (λ e. has_key shape target counts (edge_step own e)) order ≡ filter (λ e. has_key shape target counts (edge_step own e)) edges
@@ -121,7 +122,7 @@ IsDecided w = w.counts ≡ deciding w.shape (way_step w).sets
 abbrev pub IsPlaced : Stage → Way → Type 0
 IsPlaced t w = slice_get t.lists w.place ≡ Some (rising w.own.now)
 
--- the steps have one of this key
+-- one of the steps has this key
 abbrev pub HasKey : Shape → ℕ → Option ℕ → List Step → Type 0
 HasKey shape target counts steps = list_any (has_key shape target counts) steps ≡ true
 
@@ -155,7 +156,7 @@ pub record IsOf (c : Covered) (w : Way) : Type 0 where
   pub target : c.target ≡ w.target
   pub counts : c.counts ≡ w.counts
 
--- the slots of a state's letters, within so many
+-- the slots of a state's letters, within the given number of slots
 pub record IsRow (slots : ℕ) (r : Row) : Type 0 where
   pub within : r.first + r.blocks * r.width ≤ slots
   pub few : r.blocks ≤ 1024
@@ -166,7 +167,7 @@ pub record IsRow (slots : ℕ) (r : Row) : Type 0 where
 abbrev pub when : Bool → Step → List Step
 when b s = if b then s ∷ [] else []
 
--- the letters of so many propositions, in so many blocks of one width
+-- the letters of the given number of propositions, in the given number of blocks of one width
 pub record IsSplit (propositions blocks width : ℕ) : Type 0 where
   pub all : blocks * width ≡ 2 ^ propositions
   pub few : blocks ≤ 1024
@@ -177,7 +178,7 @@ pub record IsSplit (propositions blocks width : ℕ) : Type 0 where
 abbrev pub within : ℕ → ℕ → ℕ → Bool
 within first width i = nat_le first i && nat_lt i (first + width)
 
--- the step at one slot, at the slots that stand at the bits of a word, and at those of a state
+-- the step at one slot, at the slots at the bits of a word, and at the slots of a state
 abbrev pub at_slot : ℕ → Step → ℕ → List Step
 at_slot slot s i = when (i == slot) s
 
@@ -187,7 +188,7 @@ at_word first width word s i = when (within first width i && (bit_at word (i - f
 abbrev pub at_letters : ℕ → ℕ → List Op → Step → ℕ → List Step
 at_letters first width label s i = when (within first width i && says label (λ a. bit_at (i - first) a == 1)) s
 
--- the steps of a line, and of lines, at each slot, where a state has so many letters
+-- the steps of a line, and of lines, at each slot, where a state has the given number of letters
 abbrev pub at_line : ℕ → KeptLine → ℕ → List Step
 at_line letters l i = kept_edge_steps (i / letters) (i % letters) l
 
@@ -203,7 +204,7 @@ pub record IsTableOf (shape : Shape) (lines : List KeptLine) (states letters : �
   pub next_is : (state letter : ℕ) → state < states → letter < letters → next t state letter ≡ head (kept_steps lines state letter)
   pub agrees : (state letter : ℕ) → state < states → letter < letters → Agree shape (kept_steps lines state letter)
 
--- they don't agree there, and do before
+-- the steps don't agree at this state and letter, and agree at all before
 pub record IsFirstConflict (shape : Shape) (lines : List KeptLine) (states letters state letter : ℕ) : Type 0 where
   pub state_below : state < states
   pub letter_below : letter < letters

@@ -1,10 +1,10 @@
--- How the sets of a shape stand one inside the other.
+-- How the sets of a shape are nested.
 use Rattle.std.specs.Prelude.{ℕ, suc, ◌-◌, Bool}
 use Rattle.pg_hoa_automaton.specs.declared.shape.Shape.{Shape}
 use Rattle.pg_hoa_automaton.specs.declared.shape.Shape.TheVariants.{MaxEven, MinEven, MinOdd}
 use Rattle.pg_hoa_automaton.specs.Shapes.{is_even}
 
--- the set round which so many others stand inside
+-- the set that has the given number of other sets nested in it
 abbrev pub set_at : Shape → ℕ → ℕ → ℕ
 set_at MinEven sets inside = sets - 1 - inside
 set_at MinOdd sets inside = sets - 1 - inside

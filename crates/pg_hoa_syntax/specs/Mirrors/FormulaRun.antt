@@ -26,7 +26,7 @@ postfix (both f g) = postfix f ++ (postfix g ++ (Both ∷ []))
 postfix (either f g) = postfix f ++ (postfix g ++ (Either ∷ []))
 postfix (bracket f) = postfix f
 
--- a reading without where it lies in memory
+-- a reading, apart from its place in memory
 pub record KeptReading : Type 0 where
   pub mode : Mode
   pub top : Frame

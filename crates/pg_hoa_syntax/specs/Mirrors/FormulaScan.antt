@@ -1,4 +1,4 @@
--- What the reader of labels and conditions does, token by token. The laws on it stand in proofs/.
+-- What the reader of labels and conditions does, token by token. The laws about it are in proofs/.
 use Rattle.std.specs.Prelude.{ℕ, suc, zero, ◌+◌, Bool, true, false, List, [], ◌∷◌, Option, Some, None, codes, nat_lt, if◌then◌else◌}
 use Rattle.std.specs.Str.{bytes_eq}
 use Rattle.pg_hoa_syntax.specs.Lexemes.{Lexeme, number, identifier, left_paren, right_paren, bang, ampersand, bar, stray}
@@ -7,7 +7,7 @@ use Rattle.pg_hoa_syntax.specs.declared.formula.Kind.TheVariants.{Label, Conditi
 use Rattle.pg_hoa_automaton.specs.Formulas.{Formula, yes, no, proposition, inf, fin, not, both, either, bracket}
 use Rattle.pg_hoa_automaton.specs.Mirrors.Steps.{◌>>=◌}
 
--- what stands before the operand that is due, within one bracket
+-- what was read before the next operand, within one bracket
 pub record Frame : Type 0 where
   pub sum : Option Formula
   pub product : Option Formula
@@ -16,7 +16,8 @@ pub record Frame : Type 0 where
 abbrev pub fresh : Frame
 fresh = record { sum = None; product = None; nots = 0 }
 
--- each state but the fourth has how many more brackets and `!` may be opened, and the frames of the open brackets
+-- each state but the fourth has the number of brackets and `!` that may still be opened, and the frames of the open
+-- brackets
 pub data State : Type 0 where
   operand : ℕ → Frame → List Frame → State
   opening : Bool → ℕ → Frame → List Frame → State
@@ -56,7 +57,7 @@ word_step (Condition n) w room top outer =
     else (if bytes_eq w (codes "Fin") then Some (opening false room top outer)
     else None)))
 
--- one bracket or `!` more, if it may be opened
+-- one more bracket or `!`, if it may be opened
 abbrev pub deeper : ℕ → (ℕ → State) → Option State
 deeper zero next = None
 deeper (suc room) next = Some (next room)
@@ -94,7 +95,7 @@ step k (naming b room top outer) t = naming_step k b room top outer t
 step k (closing b s room top outer) t = closing_step b s room top outer t
 step k (operator room sum product outer) t = operator_step room sum product outer t
 
--- the formula ends before another token than `&` and `|`, outside the brackets
+-- the formula ends before a token other than `&` and `|`, outside the brackets
 abbrev pub finish : State → List Lexeme → Option (Formula × List Lexeme)
 finish (operator room sum product []) rest = Some (summed sum product, rest)
 finish s rest = None

@@ -1,4 +1,4 @@
--- What the reader of headers does, token by token. The laws on it stand in proofs/.
+-- What the reader of headers does, token by token. The laws about it are in proofs/.
 use Rattle.std.specs.Prelude.{ℕ, suc, zero, Bool, true, false, ◌&&◌, ◌||◌, ◌==◌, List, [], ◌∷◌, ◌++◌, length, map, Option, Some, None}
 use Rattle.std.specs.Prelude.{codes, get_or, min, nat_lt, nat_le, if◌then◌else◌}
 use Rattle.std.specs.Str.{bytes_eq}
@@ -17,7 +17,7 @@ abbrev pub numeral_of : Option Lexeme → Option ℕ
 numeral_of (Some (number n)) = Some n
 numeral_of _ = None
 
--- a number up to this limit at the front
+-- a number of at most this limit at the start
 unfoldable pub numeral_at : ℕ → List Lexeme → Option (ℕ × List Lexeme)
 numeral_at limit tokens = first tokens >>= λ x. numeral_of x.0 >>= λ n. if nat_lt limit n then None else Some (n, x.1)
 
@@ -25,18 +25,18 @@ abbrev pub behind_start : Option Lexeme → List Lexeme → Option (List Lexeme)
 behind_start (Some ampersand) tokens = None
 behind_start _ tokens = Some tokens
 
--- what stands behind the number of a start, where that isn't `&`
+-- the tokens after the number of a start, unless the first of them is `&`
 unfoldable pub alone_at : List Lexeme → Option (List Lexeme)
 alone_at tokens = first tokens >>= λ x. behind_start x.0 tokens
 
--- numbers behind others, until another token
+-- numbers appended to others, up to another token
 unfoldable pub numbers_from : List ℕ → List Lexeme → Option (List ℕ × List Lexeme)
 numbers_from ns [] = Some (ns, [])
 numbers_from ns (number n ∷ rest) = numbers_from (ns ++ (n ∷ [])) rest
 numbers_from ns (stray ∷ rest) = None
 numbers_from ns (t ∷ rest) = Some (ns, t ∷ rest)
 
--- a number behind others, unless it stands there; all from 16 on are noted as 16
+-- a number appended to others, unless it is among them; all numbers from 16 on are noted as 16
 abbrev pub note : List ℕ → ℕ → List ℕ
 note kept n = if list_any (λ m. m == min n 16) kept then kept else kept ++ (min n 16 ∷ [])
 
@@ -56,7 +56,7 @@ is_value (Some (identifier w)) = true
 is_value (Some (string s)) = true
 is_value _ = false
 
--- behind numbers, identifiers and strings
+-- the tokens after numbers, identifiers and strings
 unfoldable pub skipped_from : List Lexeme → Option (List Lexeme)
 skipped_from [] = Some []
 skipped_from (number n ∷ rest) = skipped_from rest
@@ -65,7 +65,7 @@ skipped_from (string s ∷ rest) = skipped_from rest
 skipped_from (stray ∷ rest) = None
 skipped_from (t ∷ rest) = Some (t ∷ rest)
 
--- the first character of a string's content, without a backslash before it, and what follows
+-- the first character of a string's content, without a backslash before it, and the bytes after it
 abbrev pub code_at : List ℕ → Option (ℕ × List ℕ)
 code_at [] = None
 code_at (b ∷ []) = Some (b, [])
@@ -90,14 +90,14 @@ quoted_of _ = None
 unfoldable pub quoted_at : List Lexeme → Option (List ℕ × List Lexeme)
 quoted_at tokens = first tokens >>= λ x. quoted_of x.0 >>= λ name. Some (name, x.1)
 
--- so many names behind others
+-- the given number of names appended to others
 unfoldable pub names_from : ℕ → List (List ℕ) → List Lexeme → Option (List (List ℕ) × List Lexeme)
 names_from zero names tokens = Some (names, tokens)
 names_from (suc n) names tokens = quoted_at tokens >>= λ x. names_from n (names ++ (x.0 ∷ [])) x.1
 
--- ---- one header, whose name stands before the tokens
+-- ---- one header, whose name comes before the tokens
 
--- where a header of this name hasn't stood
+-- fails if there was a header of this name before
 abbrev pub once : {A B : Type 0} → Option A → Option B → Option B
 once None next = next
 once (Some x) next = None
@@ -142,7 +142,7 @@ header_at h name tokens =
 abbrev pub empty_head : KeptHead
 empty_head = record { states = None; start = None; names = None; controls = None; acceptance = None }
 
--- headers behind others, and what stands behind their `--BODY--`; so many may follow
+-- headers after others, up to a given number of them, and the tokens after their `--BODY--`
 unfoldable pub headers_within : ℕ → KeptHead → List Lexeme → Option (KeptHead × List Lexeme)
 headers_within zero h tokens = None
 headers_within (suc n) h (body ∷ rest) = Some (h, rest)
@@ -160,14 +160,14 @@ abbrev pub is_word : List ℕ → Option Lexeme → Bool
 is_word word (Some (identifier w)) = bytes_eq w word
 is_word word _ = false
 
--- behind `HOA:`
+-- the tokens after `HOA:`
 unfoldable pub opening_at : List Lexeme → Option (List Lexeme)
 opening_at tokens = first tokens >>= λ x. if is_header (codes "HOA") x.0 then Some x.1 else None
 
--- behind `v1`
+-- the tokens after `v1`
 unfoldable pub version_at : List Lexeme → Option (List Lexeme)
 version_at tokens = first tokens >>= λ x. if is_word (codes "v1") x.0 then Some x.1 else None
 
--- what the headers say, and what stands behind their `--BODY--`
+-- the contents of the headers, and the tokens after their `--BODY--`
 unfoldable pub headers_at : List Lexeme → Option (KeptHead × List Lexeme)
 headers_at tokens = opening_at tokens >>= λ named. version_at named >>= λ rest. headers_from empty_head rest

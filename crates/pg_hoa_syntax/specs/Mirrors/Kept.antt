@@ -1,4 +1,4 @@
--- What the reader keeps of headers and of lines: labels and conditions as operations, and no names of states.
+-- What the reader keeps of headers and lines: labels and conditions as operations, and no names of states.
 use Rattle.std.specs.Prelude.{ℕ, suc, max, Bool, true, false, List, [], ◌∷◌, map, Option, Some, None}
 use Rattle.std.specs.List.{fold, filter}
 use Rattle.pg_hoa_syntax.specs.declared.formula.Op.{Op}
@@ -28,16 +28,16 @@ edge_in e = record { label = e.label.items; target = e.target; sets = e.sets.ite
 abbrev pub line_in : read_line.ReadState → KeptLine
 line_in l = record { state = l.state; greatest = l.greatest; sets = l.sets.items; edges = map edge_in l.edges.items }
 
--- a letter may have the label: it isn't the constant that no letter has
+-- a letter may match the label: it isn't the constant that no letter matches
 abbrev pub may_hold : List Op → Bool
 may_hold (No ∷ []) = false
 may_hold ops = true
 
--- of the edges of a state those are kept whose labels a letter may have
+-- the edges of a state that are kept: those whose labels a letter may match
 abbrev pub kept_edges : List KeptEdge → List KeptEdge
 kept_edges edges = filter (λ e. may_hold e.label) edges
 
--- the greatest of the state and those to which the edges lead
+-- the greatest of the state and the states that the edges lead to
 abbrev pub greatest_of : ℕ → List KeptEdge → ℕ
 greatest_of state edges = fold max state (map (λ e. e.target) edges)
 
@@ -56,7 +56,7 @@ kept_of_line l = record {
 abbrev pub count_named : ℕ → List KeptLine → ℕ
 count_named start lines = suc (fold max 0 (start ∷ map (λ l. l.greatest) lines))
 
--- what each header says that stands at most once
+-- the contents of each header that comes at most once
 pub record KeptHead : Type 0 where
   pub states : Option ℕ
   pub start : Option ℕ

@@ -1,4 +1,4 @@
--- What the headers say once they are whole, and what may follow the last line.
+-- What the headers say once all of them are read, and what may follow the last line.
 use Rattle.std.specs.Prelude.{◌≡◌, ℕ, ◌<◌, ◌==◌, Bool, List, [], ◌∷◌, length, map, Option, Some, None}
 use Rattle.std.specs.List.{All, list_any, range_with_len}
 use Rattle.pg_hoa_syntax.specs.declared.formula.Op.{Op}
@@ -35,7 +35,7 @@ abbrev pub listed : {A : Type 0} → Option (List A) → List A
 listed None = []
 listed (Some xs) = xs
 
--- for each of so many propositions, whether its number stands in the list
+-- for each of the given number of propositions, whether its number is in the list
 abbrev pub marked : List ℕ → ℕ → List Bool
 marked controls count = map (λ p. list_any (λ n. n == p) controls) (range_with_len 0 count)
 
@@ -43,7 +43,7 @@ abbrev pub StartsBelow : ℕ → Option ℕ → Type 0
 StartsBelow start None = Unit {0}
 StartsBelow start (Some states) = start < states
 
--- what has to be there is there, the numbers are in range, and the condition has this shape
+-- every required header is there, the numbers are in range, and the condition has this shape
 pub record IsPreambleOf (h : KeptHead) (s : Preamble) : Type 0 where
   pub states : s.states ≡ h.states
   pub start : h.start ≡ Some s.start
@@ -60,7 +60,7 @@ abbrev pub HasCondition : Option (ℕ × List Op) → Type 0
 HasCondition None = Unit {0}
 HasCondition (Some x) = (f : Formula) × (x.1 ≡ postfix f)
 
--- nothing else than want of memory refuses a head with a preamble
+-- only running out of memory refuses a head that has a preamble
 abbrev pub HasNoPreamble : KeptHead → Refusal → Type 0
 HasNoPreamble h Memory = Unit {0}
 HasNoPreamble h (Wrong fault) = (s : Preamble) → IsPreambleOf h s → ⊥

@@ -17,19 +17,19 @@ abbrev pub bound : Option ℕ → ℕ
 bound None = 65535
 bound (Some states) = states
 
--- the headers and lines that the tokens are
+-- the tokens are these headers and lines
 pub record Reads (tokens : List Lexeme) (h : KeptHead) (s : Preamble) (lines : List KeptLine) : Type 0 where
   pub behind : List Lexeme
   pub headers : headers_at tokens ≡ Some (h, behind)
   pub preamble : IsPreambleOf h s
   pub body : body_at (bound s.states) (length s.names) s.sets behind ≡ Some (lines, [])
 
--- nothing else than want of memory refuses tokens that can be read
+-- only running out of memory refuses tokens that can be read
 abbrev pub NeverReads : List Lexeme → Refusal → Type 0
 NeverReads tokens Memory = Unit {0}
 NeverReads tokens (Wrong fault) = (h : KeptHead) (s : Preamble) (lines : List KeptLine) → Reads tokens h s lines → ⊥
 
--- the states are counted, or go up to the greatest number that is named
+-- the number of states is given, or else it is one more than the greatest number that is named
 abbrev pub states_in : Option ℕ → ℕ → List KeptLine → ℕ
 states_in None start lines = count_named start lines
 states_in (Some states) start lines = states
@@ -61,7 +61,7 @@ bare_automaton states start propositions controllable sets shape = record {
 abbrev pub automaton : Syntax → Automaton
 automaton s = bare_automaton s.states s.start (map (λ name. name.items) s.names.items) s.controllable.items s.sets s.shape
 
--- the bytes are a text that says this automaton, but for its steps, and these lines are kept of it
+-- the bytes are a text that says this automaton, except for its steps, and these lines are kept of the text
 pub record Declares (bytes : List ℕ) (a : Automaton) (lines : List KeptLine) : Type 0 where
   pub written : Written
   pub text : IsText bytes written
@@ -71,7 +71,7 @@ pub record Declares (bytes : List ℕ) (a : Automaton) (lines : List KeptLine) :
 abbrev pub IsSyntaxOf : List ℕ → Syntax → Type 0
 IsSyntaxOf bytes s = Declares bytes (automaton s) (map line_in s.lines.items)
 
--- nothing else than want of memory refuses bytes that say an automaton
+-- only running out of memory refuses bytes that say an automaton
 abbrev pub SaysNothing : List ℕ → Refusal → Type 0
 SaysNothing bytes Memory = Unit {0}
 SaysNothing bytes (Wrong fault) = SaysNone bytes

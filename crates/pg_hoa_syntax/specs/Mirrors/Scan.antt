@@ -1,4 +1,4 @@
--- What the scanner's functions compute, token by token. The laws on it stand in proofs/.
+-- What the scanner's functions compute, token by token. The laws about it are in proofs/.
 use Rattle.std.specs.Prelude.{ℕ, suc, zero, ◌+◌, ◌-◌, ◌^◌, ◌==◌, ◌&&◌, ◌||◌, List, [], ◌∷◌, length, take, drop, Option, Some, None, nat_lt}
 use Rattle.std.specs.Prelude.{if◌then◌else◌, codes}
 use Rattle.std.specs.Str.{bytes_eq}
@@ -18,7 +18,7 @@ characters [] = []
 characters (b ∷ []) = plain b ∷ []
 characters (b ∷ c ∷ bytes) = if b == 92 then escaped c ∷ characters bytes else plain b ∷ characters (c ∷ bytes)
 
--- a token without where it lies in memory
+-- a token, apart from its place in memory
 abbrev pub lexeme : Token → Lexeme
 lexeme (tokens.Number n) = number n
 lexeme (tokens.Identifier w) = identifier w.now
@@ -38,8 +38,8 @@ lexeme tokens.Bang = bang
 lexeme tokens.Ampersand = ampersand
 lexeme tokens.Bar = bar
 
--- one blank or a part of a comment, of which so many are open: how many are open behind it, and what follows; nothing is taken where a
--- token or the end stands
+-- one blank or a part of the comments, of which the given number is open: the number open after it, and the bytes after
+-- it; nothing is taken at a token or the end
 unfoldable pub gap_step : ℕ → List ℕ → Option (Option (ℕ × List ℕ))
 gap_step deep [] = if deep == 0 then Some None else None
 gap_step deep (b ∷ []) =
@@ -62,7 +62,7 @@ unfoldable pub gap_within : ℕ → ℕ → List ℕ → Option (List ℕ)
 gap_within zero deep bytes = None
 gap_within (suc n) deep bytes = gap_step deep bytes >>= behind_blank (gap_within n) bytes
 
--- behind white space and comments, of which so many are open
+-- the bytes after white space and comments, of which the given number is open
 unfoldable pub gap_from : ℕ → List ℕ → Option (List ℕ)
 gap_from deep bytes = gap_within (suc (length bytes)) deep bytes
 
@@ -79,7 +79,7 @@ name_before w (b ∷ rest) = if is_colon b then (header w, rest) else (identifie
 unfoldable pub name_at : List ℕ → Option (Lexeme × List ℕ)
 name_at bytes = Some (name_before (take_while is_inner bytes) (drop (prefix_len is_inner bytes) bytes))
 
--- the bytes of one character of a string, and what follows; nothing at the quote that ends it
+-- the number of bytes of one character of a string, and the bytes after it; nothing at the quote that ends the string
 unfoldable pub character_at : List ℕ → Option (Option (ℕ × List ℕ))
 character_at [] = None
 character_at (b ∷ []) =
@@ -91,7 +91,7 @@ character_at (b ∷ c ∷ bytes) =
     else (if b == 92 then Some (Some (2, bytes))
     else Some (Some (1, c ∷ bytes)))
 
--- how many bytes stand before the quote that ends a string
+-- the number of bytes before the quote that ends a string
 unfoldable pub string_len : List ℕ → Option ℕ
 string_len [] = None
 string_len (b ∷ []) = if b == 34 then Some 0 else None
@@ -100,11 +100,11 @@ string_len (b ∷ c ∷ bytes) =
     else (if b == 92 then (string_len bytes >>= λ n. Some (n + 2))
     else (string_len (c ∷ bytes) >>= λ n. Some (n + 1)))
 
--- behind the first quote
+-- a string, after its first quote
 unfoldable pub string_at : List ℕ → Option (Lexeme × List ℕ)
 string_at bytes = string_len bytes >>= λ n. Some (string (characters (take n bytes)), drop (n + 1) bytes)
 
--- behind the `@`
+-- an alias, after its `@`
 unfoldable pub alias_at : List ℕ → Option (Lexeme × List ℕ)
 alias_at bytes =
     if prefix_len is_inner bytes == 0 then None
@@ -153,7 +153,7 @@ unfoldable pub lex_within : ℕ → List ℕ → List Lexeme
 lex_within zero bytes = stray ∷ []
 lex_within (suc n) bytes = behind_gap (lex_within n) (gap_from 0 bytes)
 
--- all tokens; `stray` stands last where none can be read
+-- all tokens; `stray` comes last if none can be read there
 unfoldable pub lex : List ℕ → List Lexeme
 lex bytes = lex_within (suc (length bytes)) bytes
 

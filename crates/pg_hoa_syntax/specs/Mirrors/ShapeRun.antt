@@ -7,7 +7,7 @@ use Rattle.pg_hoa_automaton.specs.declared.shape.Shape.TheVariants.{MaxEven, Max
 use Rattle.pg_hoa_automaton.specs.Mirrors.Nests.{set_at, wanted_at}
 use Rattle.pg_hoa_automaton.specs.Mirrors.Steps.{◌>>=◌}
 
--- `Inf` of the set where it is wanted, `Fin` where it is not
+-- `Inf` of the set if it is wanted, or `Fin` if it is not
 abbrev pub is_leaf : Bool → ℕ → Op → Bool
 is_leaf true set (Inf s) = s == set
 is_leaf false set (Fin s) = s == set
@@ -26,7 +26,7 @@ last_op (op ∷ more ∷ ops) = last_op (more ∷ ops) >>= λ x. Some (op ∷ x.
 abbrev pub leaf_last : Bool → ℕ → List Op → Option (List Op)
 leaf_last wanted set ops = last_op ops >>= λ x. if is_leaf wanted set x.1 then Some x.0 else None
 
--- what two operands leave without the leaf
+-- two operands without the leaf
 unfoldable pub without_leaf : Bool → ℕ → List Op → Option (List Op)
 without_leaf wanted set [] = None
 without_leaf wanted set (op ∷ ops) = if is_leaf wanted set op then Some ops else leaf_last wanted set (op ∷ ops)

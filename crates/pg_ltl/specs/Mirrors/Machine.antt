@@ -8,13 +8,13 @@ use Rattle.pg_ltl.specs.declared.token.Token.TheVariants as tokens
 use Rattle.pg_ltl.specs.Formulas.{Formula, constant, proposition, bracket, one, two}
 use Rattle.pg_ltl.specs.FormulaTexts.{strength, left_rank}
 
--- what waits for an operand: a bracket, an operator before it, or an operator with its left operand
+-- what is waiting for an operand: a bracket, a prefix operator, or an infix operator with its left operand
 pub data Frame : Type 0 where
   paren : Frame
   ahead : Prefix → Frame
   left : Infix → Formula → Frame
 
--- an operand is due behind these, or the formula stands there; the innermost comes first
+-- either an operand is due, or a formula was just read; the innermost frame comes first
 pub data State : Type 0 where
   due : List Frame → State
   over : List Frame → Formula → State
@@ -23,12 +23,12 @@ abbrev pub completes : List Frame → Formula → State
 completes (ahead op ∷ stack) f = completes stack (one op f)
 completes stack f = over stack f
 
--- operators that bind at least so strongly take their right operands
+-- operators that bind at least as strongly as `bound` take their right operands
 abbrev pub reduces : ℕ → List Frame → Formula → State
 reduces bound (left op f ∷ stack) g = if nat_le bound (strength op) then reduces bound stack (two op f g) else over (left op f ∷ stack) g
 reduces bound stack f = over stack f
 
--- a `;` in brackets may not
+-- a `;` may not stand inside brackets
 abbrev pub may_stand : List Frame → Infix → Bool
 may_stand (paren ∷ stack) Also = false
 may_stand stack op = true
@@ -54,7 +54,7 @@ abbrev pub whole : State → Option Formula
 whole (over [] f) = Some f
 whole s = None
 
--- at the end, perhaps behind a `;`
+-- the formula at the end of the tokens, possibly after a `;`
 abbrev pub finish : State → Option Formula
 finish (over stack f) = whole (reduces 0 stack f)
 finish (due (left Also f ∷ [])) = Some f

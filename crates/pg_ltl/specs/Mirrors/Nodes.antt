@@ -1,4 +1,4 @@
--- Formulas as lists of their parts, each behind its operands.
+-- Formulas as lists of their parts, each after its operands.
 use Rattle.std.specs.Prelude.{ℕ, suc, ◌<◌, ◌≤◌, max, false, List, [], ◌∷◌, ◌++◌, length, get_or}
 use Rattle.std.specs.List.{fold}
 use Rattle.pg_ltl.specs.declared.formula.FormulaNode.{FormulaNode}
@@ -8,7 +8,7 @@ use Rattle.pg_ltl.specs.declared.normal.NormalNode.TheVariants as forms
 use Rattle.pg_ltl.specs.Formulas.{Formula, constant, proposition, bracket, one, two}
 use Rattle.pg_ltl.specs.NormalForms.{NormalForm, top, bottom, literal, both, either, next, until, release}
 
--- what each part is, by what the parts before it are
+-- the meaning of each part, from the meanings of the parts before it
 abbrev pub meanings : {A B : Type 0} → (List B → A → B) → List A → List B
 meanings at nodes = fold (λ before node. before ++ (at before node ∷ [])) [] nodes
 
@@ -28,7 +28,7 @@ formula_in nodes place = get_or (formulas_of nodes) place (constant false)
 abbrev pub node_in : List FormulaNode → ℕ → FormulaNode
 node_in nodes place = get_or nodes place (parts.Constant false)
 
--- the place behind the operands of a part
+-- the place after the operands of a part
 abbrev pub reach : FormulaNode → ℕ
 reach (parts.Constant value) = 0
 reach (parts.Proposition p) = 0
@@ -36,7 +36,7 @@ reach (parts.Bracket a) = suc a
 reach (parts.One op a) = suc a
 reach (parts.Two op a b) = max (suc a) (suc b)
 
--- each part behind its operands
+-- each part comes after its operands
 abbrev pub AreFormulaNodes : List FormulaNode → Type 0
 AreFormulaNodes nodes = (place : ℕ) → place < length nodes → reach (node_in nodes place) ≤ place
 
@@ -69,6 +69,6 @@ normal_reach (forms.Next a) = suc a
 normal_reach (forms.Until a b) = max (suc a) (suc b)
 normal_reach (forms.Release a b) = max (suc a) (suc b)
 
--- each part behind its operands
+-- each part comes after its operands
 abbrev pub AreNormalNodes : List NormalNode → Type 0
 AreNormalNodes nodes = (place : ℕ) → place < length nodes → normal_reach (normal_node_in nodes place) ≤ place

@@ -1,4 +1,4 @@
--- The words of a text as tokens, as the code keeps them.
+-- The tokens and names of a text, as the code keeps them.
 use Rattle.std.specs.Prelude.{◌≡◌, ◌≢◌, ℕ, ◌+◌, ◌≤◌, ◌<◌, List, [], ◌∷◌, Option, Some, None, map, length}
 use Rattle.pg_ltl.specs.declared.fault.FormulaFault.{FormulaFault}
 use Rattle.pg_ltl.specs.declared.fault.FormulaFault.TheVariants.{Syntax, TooManyNames}
@@ -15,7 +15,7 @@ abbrev pub stop_at : List ℕ → Stop
 stop_at [] = End
 stop_at (b ∷ bytes) = NoWord
 
--- the bytes are these words, and the rest; of the text, which is so long, each word begins at its offset
+-- the bytes are these words followed by the rest; each word begins at its offset in the text, whose length is the number given
 abbrev pub Placed : ℕ → List ℕ → List Word → List ℕ → List ℕ → Type 0
 Placed len bytes [] [] rest = bytes ≡ rest
 Placed len bytes (w ∷ words) (offset ∷ offsets) rest =
@@ -23,13 +23,13 @@ Placed len bytes (w ∷ words) (offset ∷ offsets) rest =
     × Placed len after words offsets rest
 Placed len bytes words offsets rest = ⊥
 
--- the tokens are those before the rest
+-- the tokens are the words before the rest
 pub record HasPlaced (bytes : List ℕ) (t : Tokens) (rest : List ℕ) : Type 0 where
   pub words : List Word
   pub is : noted words ≡ noted_in t
   pub placed : Placed (length bytes) bytes words t.offsets.items rest
 
--- why no more words are read
+-- why reading of words stopped
 abbrev pub StopsFor : Stop → List ℕ → Noted → Type 0
 StopsFor End rest found = (behind_blanks rest ≡ []) × (length found.names ≤ 16)
 StopsFor NoWord rest found = (behind_blanks rest ≢ []) × (word_at (behind_blanks rest) ≡ None)
@@ -42,13 +42,13 @@ pub record IsTextOf (bytes : List ℕ) (t : Tokens) (stop : Stop) (end : ℕ) : 
   pub there : end + length (behind_blanks rest) ≡ length bytes
   pub stops : StopsFor stop rest (noted_in t)
 
--- the fault of a text that stops so at this byte, where all before may stand
+-- the fault of a text whose words stop at this byte for this reason, if all words before it are in order
 abbrev pub stop_fault : Stop → ℕ → FormulaFault
 stop_fault Overfull end = TooManyNames
 stop_fault End end = Syntax end
 stop_fault NoWord end = Syntax end
 
--- the fault at the token that begins at an offset, or behind all tokens
+-- the fault at the token that begins at the offset, or after all tokens if there is no offset
 abbrev pub fault_or : Stop → ℕ → Option ℕ → FormulaFault
 fault_or stop end None = stop_fault stop end
 fault_or stop end (Some offset) = Syntax offset

@@ -1,4 +1,4 @@
--- The places of formulas and of their negations, while a normal form is made.
+-- The places of formulas and of their negations, while a normal form is built.
 use Rattle.std.specs.Prelude.{◌≡◌, ℕ, ◌<◌, Bool, true, false, List, ◌++◌, length, get_or}
 use Rattle.pg_ltl.specs.declared.normal.NormalNode.{NormalNode}
 use Rattle.pg_ltl.specs.declared.pair.Pair.{Pair}
@@ -6,7 +6,7 @@ use Rattle.pg_ltl.specs.Formulas.{Formula, constant}
 use Rattle.pg_ltl.specs.NormalForms.{NormalForm, normal}
 use Rattle.pg_ltl.specs.Mirrors.Nodes.{normal_in, AreNormalNodes}
 
--- the new list is the old one with more behind it
+-- the new list is the old one with more parts appended
 abbrev pub Extends : List NormalNode → List NormalNode → Type 0
 Extends old new = (more : List NormalNode) × (new ≡ old ++ more)
 
@@ -14,14 +14,14 @@ pub record IsWithin (nodes : List NormalNode) (pair : Pair) : Type 0 where
   pub yes : pair.yes < length nodes
   pub no : pair.no < length nodes
 
--- the new list has more parts, one of which is this formula
+-- the new list extends the old one, and the part at the place is this formula
 pub record AddsNode (old new : List NormalNode) (place : ℕ) (form : NormalForm) : Type 0 where
   pub grown : Extends old new
   pub ordered : AreNormalNodes new
   pub below : place < length new
   pub is : normal_in new place ≡ form
 
--- the new list has more parts, two of which are these
+-- the new list extends the old one, and the parts at the two places are these
 pub record AddsPair (old new : List NormalNode) (pair : Pair) (yes no : NormalForm) : Type 0 where
   pub grown : Extends old new
   pub ordered : AreNormalNodes new
@@ -35,7 +35,7 @@ pub record StandsFor (nodes : List NormalNode) (pair : Pair) (f : Formula) : Typ
   pub is_yes : normal_in nodes pair.yes ≡ normal true f
   pub is_no : normal_in nodes pair.no ≡ normal false f
 
--- the places of the negation
+-- the places of the negation, swapped
 abbrev pub negated : Pair → Pair
 negated pair = record { yes = pair.no; no = pair.yes }
 
@@ -44,7 +44,7 @@ abbrev pub side : Pair → Bool → ℕ
 side pair true = pair.yes
 side pair false = pair.no
 
--- the new list has more parts, two of which are the normal forms of the formula and its negation
+-- the new list extends the old one, and the pair stands for the normal forms of the formula and its negation
 abbrev pub AddsFormula : List NormalNode → List NormalNode → Pair → Formula → Type 0
 AddsFormula old new pair f = AddsPair old new pair (normal true f) (normal false f)
 
@@ -54,6 +54,6 @@ pair_in pairs i = get_or pairs i (record { yes = 0; no = 0 })
 abbrev pub AreWithin : List NormalNode → List Pair → Type 0
 AreWithin nodes pairs = (i : ℕ) → i < length pairs → IsWithin nodes (pair_in pairs i)
 
--- each pair stands for the formula at its place
+-- each pair stands for the formula with the same index
 abbrev pub PairsStand : List NormalNode → List Pair → List Formula → Type 0
 PairsStand nodes pairs fs = (i : ℕ) → i < length pairs → StandsFor nodes (pair_in pairs i) (get_or fs i (constant false))

@@ -7,7 +7,7 @@ use Rattle.pg_ltl.specs.Mirrors.Run.{Kept, turn_at, steps_at, starting}
 use Rattle.pg_ltl.specs.declared.reading.Misplaced.{Misplaced}
 use Rattle.pg_ltl.specs.declared.reading.Misplaced.TheVariants.{Memory, At}
 
--- What a function returned, seen by view, is what reading gives, unless memory ran out.
+-- The function's result, seen through `view`, is what the reading gives, unless memory ran out.
 abbrev pub Fails : {Y : Type 0} → Misplaced → Option Y → Type 0
 Fails Memory read = Unit {0}
 Fails (At place) read = read ≡ None
@@ -16,12 +16,12 @@ abbrev pub Gives : {X Y : Type 0} → (X → Y) → Result X Misplaced → Optio
 Gives view (Ok x) read = read ≡ Some (view x)
 Gives view (Err e) read = Fails e read
 
--- memory ran out, or the tokens are those of no formula
+-- memory ran out, or the tokens spell no formula
 abbrev pub IsMisread : List Token → Misplaced → Type 0
 IsMisread ts Memory = Unit {0}
 IsMisread ts (At place) = (f : Formula) → AreTokensOf ts f → ⊥
 
--- the tokens before this one are read, and it may not stand there, if there is one
+-- all tokens before this one can be read, and this one, if there is one, is out of place
 pub record IsStuck (ts : List Token) (place : ℕ) : Type 0 where
   pub within : place ≤ length ts
   pub kept : Kept
@@ -32,7 +32,7 @@ abbrev pub StopsRun : List Token → Misplaced → Type 0
 StopsRun ts Memory = Unit {0}
 StopsRun ts (At place) = IsStuck ts place
 
--- some formula's tokens begin with those before this one, and none with these and this one, if there is one
+-- the tokens before this one begin some formula, and with this one, if there is one, they begin none
 pub record IsStopped (ts : List Token) (place : ℕ) : Type 0 where
   pub within : place ≤ length ts
   pub before : BeginsOne (take place ts)

@@ -1,4 +1,4 @@
--- What the reader of tokens keeps: the parts so far, what waits for an operand, and the operand that stands there.
+-- The state of the reader of tokens: the parts so far, what is waiting for an operand, and the operand just read.
 use Rattle.std.specs.Prelude.{ℕ, Bool, true, false, nat_le, List, [], ◌∷◌, ◌++◌, length, reverse, Option, Some, None, if◌then◌else◌}
 use Rattle.pg_ltl.specs.declared.formula.Prefix.{Prefix}
 use Rattle.pg_ltl.specs.declared.formula.Infix.{Infix}
@@ -42,11 +42,11 @@ reduced_at bound nodes (Left op other ∷ frames) place =
     else record { nodes = nodes; frames = Left op other ∷ frames; operand = Some place }
 reduced_at bound nodes frames place = record { nodes = nodes; frames = frames; operand = Some place }
 
--- an operand that is a part of its own
+-- an operand that is a single new part
 unfoldable pub operand_at : Kept → FormulaNode → Kept
 operand_at r node = completed_at (r.nodes ++ (node ∷ [])) r.frames (length r.nodes)
 
--- one frame more waits
+-- one more frame is waiting
 abbrev pub opened : Kept → Frame → Kept
 opened r frame = record { nodes = r.nodes; frames = frame ∷ r.frames; operand = None }
 
@@ -88,7 +88,7 @@ turn_with r (Some place) t = over_turn r place t
 unfoldable pub turn_at : Kept → Token → Option Kept
 turn_at r t = turn_with r r.operand t
 
--- the parts and the place of the whole
+-- the parts, and the place of the whole formula
 abbrev pub whole_with : List FormulaNode → List Frame → Option ℕ → Option (List FormulaNode × ℕ)
 whole_with nodes [] (Some place) = Some (nodes, place)
 whole_with nodes frames place = None
@@ -100,7 +100,7 @@ abbrev pub also_of : Frame → Option ℕ
 also_of (Left Also place) = Some place
 also_of frame = None
 
--- the formula before the one `;` that waits there
+-- the formula before a `;`, if that is all that is waiting
 abbrev pub ended_place : List Frame → Option ℕ
 ended_place [] = None
 ended_place (frame ∷ []) = also_of frame

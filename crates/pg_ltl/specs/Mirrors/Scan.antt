@@ -1,4 +1,4 @@
--- Words without where they lie in memory.
+-- Words, regardless of where they lie in memory.
 use Rattle.pg_ltl.specs.declared.word.Word as words
 use Rattle.pg_ltl.specs.declared.word.Word.TheVariants as variants
 use Rattle.pg_ltl.specs.Words.{Word, name, sign}

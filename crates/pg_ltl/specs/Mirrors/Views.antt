@@ -1,4 +1,4 @@
--- What formulas are, as the code keeps them.
+-- Which formulas the code's data stand for.
 use Rattle.pg_ltl.specs.declared.formula.Formula as kept
 use Rattle.pg_ltl.specs.declared.normal.NormalForm as forms
 use Rattle.pg_ltl.specs.Formulas.{Formula}

@@ -1,4 +1,4 @@
--- What the code checks of claims.
+-- What the code checks about claims.
 use Rattle.std.specs.Prelude.{◌≡◌, ◌⊎◌, ℕ, ◌<◌, ◌≤◌, Bool, true, false, List, length, slice_index, slice_index_or, Option, IsSome}
 use Rattle.pg_arena.specs.Games.{opponent}
 use Rattle.pg_map.specs.Lines.{Line, line_at}
@@ -20,7 +20,7 @@ pub record IsClaimFrom (x : Claims) (low w place : ℕ) : Type 0 where
   pub high : low ≤ (claim_at x claim).rank
   pub stands : (claim_at x claim).place ≡ place
 
--- w has one that stands before the end
+-- w has a claim of at least a rank that stands before the end
 pub record HasClaimBefore (x : Claims) (low end w : ℕ) : Type 0 where
   pub place : ℕ
   pub is : IsClaimFrom x low w place
@@ -30,11 +30,11 @@ pub record HasClaimBefore (x : Claims) (low end w : ℕ) : Type 0 where
 abbrev pub IsKnown : List Bool → ℕ → Type 0
 IsKnown known w = slice_index_or known w false ≡ true
 
--- w needs no claim, or has one
+-- w needs no claim, is known to have top, or has a claim that stands before the end
 abbrev pub Backs : Claims → List Bool → ℕ → ℕ → ℕ → Type 0
 Backs x known low end w = (low ≡ 0) ⊎ (IsKnown known w ⊎ HasClaimBefore x low end w)
 
--- what is checked of a claim
+-- what is checked about a claim
 pub record IsGoodClaim (lines : ℕ → Option Line) (ladder : LadderValue) (x : Claims) (known : List Bool) (c : Claim) : Type 0 where
   pub held : IsSome (lines c.vertex)
   pub stands : (span_at x.spans.items c.place).priority ≡ (line_at lines c.vertex).priority
@@ -46,11 +46,12 @@ pub record IsGoodClaim (lines : ℕ → Option Line) (ladder : LadderValue) (x :
 abbrev pub AreGoodClaims : (ℕ → Option Line) → LadderValue → Claims → List Bool → Type 0
 AreGoodClaims lines ladder x known = (k : ℕ) → k < length x.claims.items → IsGoodClaim lines ladder x known (claim_at x k)
 
--- v has the rank 0, or needs no claim, or has one of at least its rank
+-- v has a claim of at least a rank
 pub record HasClaim (x : Claims) (rank v : ℕ) : Type 0 where
   pub place : ℕ
   pub is : IsClaimFrom x rank v place
 
+-- each vertex has the rank 0, is known to have top, or has a claim of at least its rank
 abbrev pub AreRanksClaimed : Claims → List Bool → List ℕ → Type 0
 AreRanksClaimed x known ranks =
     (v : ℕ) → v < length ranks → (slice_index ranks v ≡ 0) ⊎ (IsKnown known v ⊎ HasClaim x (slice_index ranks v) v)

@@ -1,11 +1,11 @@
--- What a look over the vertices that rose has to go over.
+-- What a look at the vertices that rose has to go over.
 use Rattle.std.specs.Prelude.{ℕ, ◌+◌, ◌-◌, ◌⊎◌, List, length, take, drop, min, All, Option, IsSome, slice_index_or}
 use Rattle.std.specs.List.{Contains}
 use Rattle.pg_map.specs.Lines.{Line, line_at}
 use Rattle.pg_map.specs.Maps.{IsServed}
 use Rattle.pg_measure.specs.Measures.{BoundList, MeasureValue}
 
--- from one place to another
+-- the part of a list from one place to another
 abbrev pub run_of : List ℕ → ℕ → ℕ → List ℕ
 run_of xs from to = take (to - from) (drop from xs)
 
@@ -13,15 +13,15 @@ run_of xs from to = take (to - from) (drop from xs)
 abbrev pub end_of : List ℕ → List ℕ → ℕ → ℕ
 end_of starts sources v = min (slice_index_or starts (v + 1) 0) (length sources)
 
--- those that are listed as leading to v
+-- the vertices that are listed as leading to v
 abbrev pub sources_of : List ℕ → List ℕ → ℕ → List ℕ
 sources_of starts sources v = run_of sources (min (slice_index_or starts v 0) (end_of starts sources v)) (end_of starts sources v)
 
--- v is listed as leading to each of these
+-- v is listed as leading to each of these vertices
 abbrev pub IsListed : List ℕ → List ℕ → ℕ → List ℕ → Type 0
 IsListed starts sources v ws = All (λ w. Contains (sources_of starts sources w) v) ws
 
--- each vertex is listed where it leads to
+-- each vertex is listed as leading to each of its successors
 abbrev pub ListsAll : List ℕ → List ℕ → (ℕ → Option Line) → Type 0
 ListsAll starts sources lines = (v : ℕ) → IsSome (lines v) → IsListed starts sources v (line_at lines v).successors
 

@@ -3,19 +3,20 @@ use Rattle.std.specs.Prelude.{◌≡◌, ℕ, suc, ◌+◌, ◌^◌, ◌<◌, �
 use Rattle.pg_measure.specs.Measures.{BoundList, AreBounds}
 use Rattle.pg_map_ranks.specs.Ladders.{step_at, component}
 
--- the steps from `begin` on before step k are at lesser priorities than it, and the one before them isn't
+-- the steps from `begin` on and before step k are at lesser priorities than step k, and the step before them isn't
 pub record IsBegin (steps : List ℕ) (begin k : ℕ) : Type 0 where
   pub among : begin ≤ k
   pub less : (j : ℕ) → begin ≤ j → j < k → step_at steps j < step_at steps k
   pub first : (j : ℕ) → begin ≡ suc j → step_at steps k ≤ step_at steps j
 
--- the steps from `origin` on before step k are at no greater priorities, and the one before them is at a greater one
+-- the steps from `origin` on and before step k are at priorities no greater than that of step k, and the step before them is at a
+-- greater one
 pub record IsOrigin (steps : List ℕ) (origin k : ℕ) : Type 0 where
   pub among : origin ≤ k
   pub no_more : (j : ℕ) → origin ≤ j → j < k → step_at steps j ≤ step_at steps k
   pub more : (j : ℕ) → origin ≡ suc j → step_at steps k < step_at steps j
 
--- the steps after step k before `end` are at no greater priorities
+-- the steps after step k and before `end` are at priorities no greater than that of step k
 pub record IsEnd (steps : List ℕ) (end k : ℕ) : Type 0 where
   pub after : k < end
   pub within : end ≤ length steps
@@ -25,7 +26,7 @@ pub record IsEnd (steps : List ℕ) (end k : ℕ) : Type 0 where
 abbrev pub IsBounded : BoundList → ℕ → ℕ → Type 0
 IsBounded bounds p n = Any (λ b. (b.0 ≡ p) × (n ≤ b.1)) bounds
 
--- the component that step k makes greater is n after it
+-- after step k, the component that it makes greater is n
 abbrev pub IsCount : List ℕ → ℕ → ℕ → Type 0
 IsCount steps n k = n ≡ component steps (step_at steps k) (suc k)
 
@@ -41,7 +42,7 @@ pub record AreEnds (steps ends : List ℕ) : Type 0 where
   pub each : length ends ≡ length steps
   pub are : (k : ℕ) → k < length steps → IsEnd steps (slice_index ends k) k
 
--- the steps are few enough for ranks to be numbers of the code, and it is known where lesser steps begin and end
+-- there are few enough steps for ranks to be numbers of the code, and it is known where lesser steps begin and end
 pub record AreBlocks (steps begins ends : List ℕ) : Type 0 where
   pub few : length steps + 2 < 2 ^ 32
   pub are_begins : AreBegins steps begins

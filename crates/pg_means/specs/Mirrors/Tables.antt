@@ -5,7 +5,7 @@ use Rattle.pg_means_look.specs.declared.automaton.Edge.{Edge}
 use Rattle.pg_means_look.specs.Mirrors.Tables.{edge_at}
 use Rattle.pg_means.specs.Priorities.{target_code, step_priority}
 
--- the step at a letter, none behind the last state
+-- the step at a letter, or none after the last state
 abbrev pub step_of : Automaton → ℕ → ℕ → Option Step
 step_of a state letter = if nat_lt state a.states then next a state letter else None
 
@@ -13,7 +13,7 @@ pub record IsEdgeOf (a : Automaton) (step : Option Step) (edge : Edge) : Type 0 
   pub target : edge.target ≡ target_code a step
   pub priority : edge.priority ≡ step_priority a step
 
--- row by row, the edges of so many places; so many letters make a row
+-- the edges row by row, with `width` letters to a row
 abbrev pub AreEdges : Automaton → ℕ → List Edge → Type 0
 AreEdges a width edges =
     (place : ℕ) → place < length edges → IsEdgeOf a (step_of a (place / width) (place % width % letters a)) (edge_at edges place)

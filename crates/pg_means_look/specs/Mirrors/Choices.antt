@@ -1,4 +1,4 @@
--- Choices of a tableau by the places of the formulas that they ask for.
+-- The choices of a tableau, by the places of the formulas that they ask for.
 use Rattle.std.specs.Prelude.{◌≡◌, ℕ, ◌<◌, List, map, length, slice_index_or}
 use Rattle.pg_ltl.specs.declared.normal.NormalNode.{NormalNode}
 use Rattle.pg_ltl.specs.declared.normal.NormalNode.TheVariants as nodes
@@ -14,7 +14,7 @@ part forms place = slice_index_or forms place top
 abbrev pub parts : List NormalForm → List ℕ → List NormalForm
 parts forms places = map (part forms) places
 
--- each formula is what its node makes of the others
+-- each formula is what its node makes of the formulas before it
 abbrev pub AreForms : List NormalNode → List NormalForm → Type 0
 AreForms list forms = (place : ℕ) → place < length list → part forms place ≡ normal_at forms (slice_index_or list place nodes.Top)
 
@@ -28,7 +28,7 @@ choices_in forms cs = map (choice_of forms) cs
 abbrev pub IsNoMore : Choice → Choice → Type 0
 IsNoMore d c = Each (IsAmong c.asks) d.asks × Each (IsAmong c.puts) d.puts
 
--- of all these each has one that is kept and asks for no more
+-- for each of these, a kept one asks for no more and puts off no more
 abbrev pub AreCovered : List Choice → List Choice → Type 0
 AreCovered kept all = Each (λ c. IsLeftOut c kept) all
 

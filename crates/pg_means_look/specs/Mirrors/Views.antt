@@ -25,7 +25,7 @@ automaton_of a = record {
 abbrev pub node_at : List kept.Node → ℕ → kept.Node
 node_at nodes v = slice_index_or nodes v (record { state = 0; set = 0 })
 
--- the ranks and the witnesses of the level at this place, none past the end
+-- the ranks and the witnesses of the level at this place, or none past the end
 abbrev pub ranks_at : List Level → ℕ → List ℕ
 ranks_at levels k = slice_index_or (map (λ (level : Level). level.ranks.items) levels) k []
 
@@ -38,7 +38,7 @@ rank_in ranks v = slice_index_or ranks v 0
 abbrev pub witness_in : List (Option ℕ) → ℕ → Option ℕ
 witness_in witnesses rank = slice_index_or witnesses rank None
 
--- a level says of one of two priorities that follow one another
+-- each level speaks of one of two consecutive priorities
 abbrev pub certificate_of : List NormalForm → proposed.Certificate → Certificate
 certificate_of forms c = record {
   count = length c.nodes.items;
@@ -51,13 +51,13 @@ abbrev pub StaysBy : Option ℕ → ℕ → ℕ → List ℕ → Type 0
 StaysBy None p priority puts = priority ≢ p
 StaysBy (Some u) p priority puts = Contains puts u
 
--- what a level has to say of an edge from v to w
+-- what a level must say of an edge from v to w
 abbrev pub IsFineAt : List ℕ → List (Option ℕ) → ℕ → ℕ → List ℕ → ℕ → ℕ → Type 0
 IsFineAt ranks witnesses p priority puts v w =
     priority ≤ p → (rank_in ranks w < rank_in ranks v)
     ⊎ ((rank_in ranks w ≡ rank_in ranks v) × StaysBy (witness_in witnesses (rank_in ranks v)) p priority puts)
 
--- each choice at the letter goes from the node to one
+-- each choice at the letter leads from the node to some node
 abbrev pub GoesEach : Automaton → Certificate → ℕ → ℕ → ℕ → List NormalForm → List choice.Choice → Type 0
 GoesEach a cert parity v l forms list = Each (Goes a cert parity v l) (choices_in forms list)
 

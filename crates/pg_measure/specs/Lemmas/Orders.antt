@@ -7,7 +7,7 @@ use Rattle.std.specs.Cmp.Lexicographic.{slice_cmp, lists_total, options_total}
 use Rattle.std.proofs.Common.{subst}
 use Rattle.pg_measure.specs.Measures.{MeasureValue, OwnedMeasure, measure_cmp}
 
--- `option_cmp` has `None` below all else, so it is turned round to have top above
+-- `option_cmp` has `None` below everything else, so it is reversed to have top above everything else
 as_options : (m n : MeasureValue) → flip_args (option_cmp (flip_args (slice_cmp nat_cmp))) m n ≡ measure_cmp m n
 as_options None None = refl
 as_options None (Some ys) = refl

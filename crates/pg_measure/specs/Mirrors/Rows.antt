@@ -1,15 +1,15 @@
--- Measures kept in rows of numbers: a mark, 0 for a list and 1 for top, and then the components.
+-- Measures stored in rows of numbers: a mark, 0 for a list and 1 for top, followed by the components.
 use Rattle.std.proofs.Common.{zero, suc}
 use Rattle.std.specs.Prelude.{ℕ, Bool, List, [], ◌∷◌, take, Some, None, MatchBool}
 use Rattle.pg_measure.specs.Measures.{BoundList, MeasureValue, Fits, AtMost, ListBelow, ListAtMost, CoversFront}
 
--- the measure that a row holds; what stands behind the mark of top doesn't count
+-- the measure that a row holds; the numbers after the mark of top don't matter
 abbrev pub measure_of : List ℕ → MeasureValue
 measure_of [] = None
 measure_of (zero ∷ xs) = Some xs
 measure_of (suc mark ∷ xs) = None
 
--- the numbers before j, and then zeros
+-- the numbers before index j, followed by zeros
 abbrev pub cleared : ℕ → List ℕ → List ℕ
 cleared j [] = []
 cleared zero (x ∷ xs) = 0 ∷ cleared zero xs
@@ -22,15 +22,14 @@ FrontAtMost width None (Some ys) = ⊥
 FrontAtMost width (Some xs) None = Unit {0}
 FrontAtMost width (Some xs) (Some ys) = ListAtMost (take width xs) (take width ys)
 
--- what stands where m doesn't cover n: m is a list, and less than n in the first components, or at most n where more is
--- wanted
+-- what holds if m doesn't cover n: m is a list, and less than n in the first components, or at most n if `strict` is true
 abbrev pub MissesFront : Bool → ℕ → MeasureValue → MeasureValue → Type 0
 MissesFront strict width None n = ⊥
 MissesFront strict width (Some xs) None = Unit {0}
 MissesFront strict width (Some xs) (Some ys) =
     MatchBool strict (ListAtMost (take width xs) (take width ys)) (ListBelow (take width xs) (take width ys))
 
--- r is the least measure of the bounds that covers m in the first `width` components
+-- r is the least measure within the bounds that covers m in the first `width` components
 pub record IsLeastCover (bounds : BoundList) (strict : Bool) (width : ℕ) (m r : MeasureValue) : Type 0 where
   pub fits : Fits bounds r
   pub covers : CoversFront strict width r m

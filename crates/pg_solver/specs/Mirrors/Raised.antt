@@ -3,7 +3,7 @@ use Rattle.std.specs.Prelude.{◌≡◌, ℕ, length, Option}
 use Rattle.pg_map.specs.Lines.{Line}
 use Rattle.pg_map.specs.Maps.{MapValue, StaysUnder}
 
--- a map became one that is at most every closed map that it was at most
+-- the new map is at most every closed map that the old one was at most
 pub record IsRaised (lines : ℕ → Option Line) (from map : MapValue) : Type 0 where
   pub bounds : map.bounds ≡ from.bounds
   pub size : length map.measures ≡ length from.measures

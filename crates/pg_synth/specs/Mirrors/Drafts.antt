@@ -1,4 +1,4 @@
--- A machine while it is being made.
+-- A machine while it is being built.
 use Rattle.std.specs.Prelude.{◌≡◌, ◌≢◌, ℕ, suc, ◌+◌, ◌*◌, ◌<◌, ◌≤◌, ◌⊎◌, List, length, slice_index_or, Option, Some, None}
 use Rattle.pg_arena.specs.declared.player.Player.TheVariants.{Even}
 use Rattle.pg_arena.specs.Games.{GameVertex}
@@ -17,7 +17,7 @@ abbrev pub machine_with : ℕ → ℕ → ℕ → List Reply → Machine
 machine_with states inputs outputs replies =
     record { states = states; inputs = inputs; outputs = outputs; replies = replies }
 
--- the least output letter by which the state q and the input letter i lead to the identifier n, if one does
+-- the least output letter by which the state q and the input letter i lead to the identifier n, if there is one
 pub record IsLeast (a : Automaton) (q i n output : ℕ) : Type 0 where
   pub output_in : output < output_letters a
   pub leads : target a q (joined a.controllable i output) ≡ n
@@ -31,14 +31,14 @@ IsLeastIfAny a q i n (Some output) = IsLeast a q i n output
 abbrev pub IsWonAt : Automaton → List GameVertex → List solutions.Answer → ℕ → Type 0
 IsWonAt a game solution q = (i v : ℕ) → StandsFor a game v (Answer q i) → winner solution v ≡ Even
 
--- the state with a number
+-- the state with this number
 abbrev pub state_of : List ℕ → ℕ → ℕ
 state_of states k = slice_index_or states k 0
 
 abbrev pub reply_of : List Reply → ℕ → Reply
 reply_of replies place = slice_index_or replies place no_reply
 
--- the states by their numbers and the replies so far, state by state and input letter by input letter
+-- the states, by their numbers, and the replies so far, state by state and input letter by input letter
 pub record IsDraft (a : Automaton) (game : List GameVertex) (solution : List solutions.Answer)
     (states : List ℕ) (replies : List Reply) : Type 0 where
   pub has_start : 0 < length states
@@ -54,7 +54,7 @@ pub record IsDraft (a : Automaton) (game : List GameVertex) (solution : List sol
       → (place : ℕ) × (place < length replies) × (place < n * input_letters a) × ((reply_of replies place).next ≡ n)
       × ((earlier : ℕ) → earlier < place → (reply_of replies earlier).next < n)
 
--- `after` has the states, and behind them the state q if it isn't among them; `number` is its number there
+-- `after` has the states, followed by the state q if it isn't among them; `number` is the number of q in `after`
 pub record IsNumbered (states : List ℕ) (q number : ℕ) (after : List ℕ) : Type 0 where
   pub kept : (k : ℕ) → k < length states → state_of after k ≡ state_of states k
   pub number_in : number < length after

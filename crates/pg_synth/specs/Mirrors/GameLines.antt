@@ -1,4 +1,4 @@
--- The lines of which the game of an automaton is made.
+-- The lines from which the game of an automaton is built.
 use Rattle.std.specs.Prelude.{ℕ, ◌-◌, ◌/◌, ◌%◌, ◌<◌, ◌==◌, nat_le, if◌then◌else◌, List, [], ◌∷◌, ◌++◌, map, length, Some, None}
 use Rattle.std.specs.List.{flat_map, range_with_len}
 use Rattle.pg_arena.specs.Lines.{Line}
@@ -9,7 +9,7 @@ use Rattle.pg_synth.specs.AutomatonGames.{input_letters, output_letters, width, 
 use Rattle.pg_synth.specs.declared.place.Place.{Place}
 use Rattle.pg_synth.specs.declared.place.Place.TheVariants.{Dead, Arrival, Answer}
 
--- the place with the number r among those of the state q, and the one with an identifier
+-- the place with the number r among those of the state q, and the place with an identifier
 abbrev pub place_within : ℕ → ℕ → ℕ → Place
 place_within sets q r =
     if r == 0 then Arrival q None else (if nat_le r sets then Arrival q (Some (r - 1)) else Answer q (r - 1 - sets))
@@ -44,7 +44,7 @@ all_identifiers a =
 abbrev pub game_identifiers : Automaton → List ℕ
 game_identifiers a = rising (all_identifiers a)
 
--- how many edges the vertex with an identifier has
+-- the number of edges of the vertex with an identifier
 abbrev pub edges_of : Automaton → ℕ → ℕ
 edges_of a n = length (rising (leads a (place_in a n)))
 
@@ -63,7 +63,7 @@ line_at a n = line_of_place a n (place_in a n)
 abbrev pub game_lines : Automaton → List Line
 game_lines a = map (line_at a) (game_identifiers a)
 
--- the set of an arrival is one of so many
+-- the set of an arrival, if it has one, is below `sets`
 abbrev pub HasSetBelow : ℕ → Place → Type 0
 HasSetBelow sets Dead = Unit {0}
 HasSetBelow sets (Arrival q None) = Unit {0}

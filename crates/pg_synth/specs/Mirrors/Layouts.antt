@@ -6,7 +6,7 @@ use Rattle.pg_synth.specs.Letters.{joined, inputs, outputs}
 use Rattle.pg_synth.specs.AutomatonGames.{width}
 use Rattle.pg_synth.specs.declared.layout.Layout.{Layout}
 
--- each input letter, and each output letter, joined with no bits of the other; and how many identifiers each state has
+-- each input letter, and each output letter, joined with zero bits for the other part; and the number of identifiers per state
 pub record IsLayoutOf (a : Automaton) (layout : Layout) : Type 0 where
   pub automaton : IsAutomaton a
   pub inputs : layout.inputs.items ≡ map (λ i. joined a.controllable i 0) (range_with_len 0 (2 ^ inputs a.controllable))

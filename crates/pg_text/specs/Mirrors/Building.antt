@@ -6,8 +6,8 @@ use Rattle.pg_text.specs.declared.fault.TextFault.{TextFault}
 use Rattle.pg_text.specs.declared.fault.TextFault.TheVariants.{OutOfMemory, Syntax, NumberTooLarge, Arena}
 use Rattle.pg_text.specs.GameText.{IsText, HasBadLine, Refuses}
 
--- The builder has the lines of the text. Else memory ran out, or the bytes are no text, or it has a line that may not
--- follow those before, so that no lines of the text keep the limits.
+-- The builder has the lines of the text. Otherwise memory ran out, or the bytes are no text, or the text has a line
+-- that may not follow those before it, so that no lines of the text keep the limits.
 abbrev pub BuildsLines : List ℕ → Result (List Line) TextFault → Type 0
 BuildsLines bytes (Ok built) = (lines : List Line) × IsText bytes lines × (built ≡ map counted lines) × Accepts [] lines
 BuildsLines bytes (Err OutOfMemory) = Unit {0}

@@ -1,4 +1,4 @@
--- What the functions that read a game compute: a mirror of them for proofs, whose laws stand in proofs/.
+-- What the functions that read a game compute: a mirror of them for proofs, whose laws are in proofs/.
 use Rattle.std.specs.Prelude.{ℕ, suc, zero, List, Option, Some, None, Ok, Err, codes, option_copied}
 use Rattle.pg_arena.specs.declared.player.Player.{Player}
 use Rattle.pg_arena.specs.declared.player.Player.TheVariants.{Even, Odd}
@@ -10,7 +10,7 @@ use Rattle.pg_text.specs.Mirrors.Steps.{◌>>=◌, Read, Step, item, stop, items
 use Rattle.pg_text.specs.Mirrors.Scan.{token_at}
 use Rattle.pg_text.specs.Mirrors.Parts.{natural_at, semicolon_at, numbers_at, clause_at}
 
--- a line without where it lies in memory
+-- a line, apart from its place in memory
 abbrev pub line_seen : List ℕ → TextLine → Line
 line_seen successors l = record {
   identifier = l.identifier;
@@ -37,7 +37,7 @@ ending_in bytes (_, rest) = Err (unexpected bytes)
 unfoldable pub ending_at : List ℕ → Read (Option (List ℕ) × List ℕ)
 ending_at bytes = token_at bytes >>= ending_in bytes
 
--- behind the identifier, by what the successors are read with
+-- a line after its identifier, by the reader of its successors
 abbrev pub line_by : (List ℕ → Read (List ℕ × List ℕ)) → ℕ → List ℕ → Read (Line × List ℕ)
 line_by list_at identifier bytes = do
   priority ← natural_at bytes

@@ -1,4 +1,4 @@
--- What the functions that read parts of texts compute: a mirror of them for proofs, whose laws stand in proofs/Parts.
+-- What the functions that read parts of texts compute: a mirror of them for proofs, whose laws are in proofs/Parts.
 use Rattle.std.specs.Prelude.{ℕ, List, ◌∷◌, Option, Some, None, Ok, Err, if◌then◌else◌}
 use Rattle.std.specs.Str.{bytes_eq}
 use Rattle.std.specs.Borrow.{Bor}
@@ -11,7 +11,7 @@ abbrev pub misplaced_in : List ℕ → Read (Lexeme × List ℕ) → TokenFault
 misplaced_in bytes (Ok x) = unexpected bytes
 misplaced_in bytes (Err fault) = fault
 
--- why the next token is refused, where another one has to stand
+-- why the next token is refused, where another one must come
 unfoldable pub misplaced : List ℕ → TokenFault
 misplaced bytes = misplaced_in bytes (token_at bytes)
 
@@ -56,7 +56,7 @@ clause_in name bytes (word w, rest) =
     else Ok (None, bytes)
 clause_in name bytes (_, rest) = Ok (None, bytes)
 
--- the number between the word and a semicolon; nothing is taken where the word doesn't stand
+-- the number between the word and a semicolon; nothing is taken if the word isn't there
 unfoldable pub clause_at : List ℕ → List ℕ → Read (Option ℕ × List ℕ)
 clause_at name bytes = token_at bytes >>= clause_in name bytes
 
@@ -64,7 +64,7 @@ abbrev pub further_in : List ℕ → Lexeme × List ℕ → Read (Step ℕ (Unit
 further_in bytes (comma, rest) = natural_at rest >>= λ n. Ok (item n.0, n.1)
 further_in bytes (_, rest) = Ok (stop tt, bytes)
 
--- a comma and a number; nothing is taken where no comma stands
+-- a comma and a number; nothing is taken if there is no comma
 unfoldable pub further_at : List ℕ → Read (Step ℕ (Unit {0}) × List ℕ)
 further_at bytes = token_at bytes >>= further_in bytes
 
@@ -72,7 +72,7 @@ abbrev pub further_seen : List ℕ → Option (ℕ × Bor (List ℕ)) → Step �
 further_seen bytes (Some x) = (item x.0, x.1.now)
 further_seen bytes None = (stop tt, bytes)
 
--- numbers with commas between
+-- numbers separated by commas
 unfoldable pub numbers_at : List ℕ → Read (List ℕ × List ℕ)
 numbers_at bytes = do
   first ← natural_at bytes

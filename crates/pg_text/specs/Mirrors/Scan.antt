@@ -1,4 +1,4 @@
--- What the functions that read a token compute: a mirror of them for proofs, whose laws stand in proofs/Lexing.
+-- What the functions that read a token compute: a mirror of them for proofs, whose laws are in proofs/Lexing.
 use Rattle.std.specs.Prelude.{ℕ, ◌+◌, ◌^◌, ◌==◌, List, [], ◌∷◌, length, drop, Option, Some, None, Ok, Err, nat_lt, if◌then◌else◌}
 use Rattle.std.specs.List.{prefix_len, take_while}
 use Rattle.pg_text.specs.Lexemes.{Lexeme, number, word, semicolon, comma, quoted, end, is_letter, is_plain, after_space, token_fault}
@@ -15,7 +15,7 @@ number_at bytes =
 unfoldable pub word_at : List ℕ → Option (Lexeme × List ℕ)
 word_at bytes = Some (word (take_while is_letter bytes), drop (prefix_len is_letter bytes) bytes)
 
--- behind the first quote
+-- a string, after its first quote
 unfoldable pub quoted_at : List ℕ → Option (Lexeme × List ℕ)
 quoted_at bytes =
     if nat_lt (prefix_len is_plain bytes) (length bytes)

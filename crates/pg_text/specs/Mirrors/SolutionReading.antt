@@ -28,7 +28,7 @@ pub record LeadsNowhere (game : List GameVertex) (line : SolutionLine) (v : ℕ)
   pub counts : counting_strategy game line v ≡ Some n
   pub absent : (w : ℕ) → IsEdge game v w → identifier game w ≢ n
 
--- the line's answer was put where none was
+-- the line's answer was entered where there was none
 pub record Puts (game : List GameVertex) (line : SolutionLine) (solution : List Answer) (seen : List Bool)
     (solution' : List Answer) (seen' : List Bool) : Type 0 where
   pub v : ℕ
@@ -74,7 +74,7 @@ pub record BeginsWell (game : List GameVertex) (seen : List Bool) (here : List �
   pub fresh : (n : ℕ) → StartsLine here n → IsUnmarked game n seen
   pub no_unfit : (n : ℕ) → ¬ BeginsUnfit game here n
 
--- what is read says what these lines say, and each vertex is marked that one of them names
+-- the solution read so far says what these lines say, and each vertex that one of them names is marked
 pub record State (game : List GameVertex) (lines : List SolutionLine) (solution : List Answer) (seen : List Bool)
     : Type 0 where
   pub whole : length solution ≡ length game

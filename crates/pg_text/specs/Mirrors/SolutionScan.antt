@@ -1,4 +1,4 @@
--- What the functions that read a solution's lines compute: a mirror of them for proofs, whose laws stand in proofs/.
+-- What the functions that read a solution's lines compute: a mirror of them for proofs, whose laws are in proofs/.
 use Rattle.std.specs.Prelude.{ℕ, List, Option, Some, None, Ok, Err}
 use Rattle.pg_text.specs.declared.solution_line.SolutionLine.{SolutionLine}
 use Rattle.pg_text.specs.Lexemes.{Lexeme, number, semicolon, end}
@@ -16,7 +16,7 @@ strategy_in bytes (_, rest) = Err (unexpected bytes)
 unfoldable pub strategy_at : List ℕ → Read (Option ℕ × List ℕ)
 strategy_at bytes = token_at bytes >>= strategy_in bytes
 
--- behind the identifier
+-- a line, after its identifier
 unfoldable pub answer_at : ℕ → List ℕ → Read (SolutionLine × List ℕ)
 answer_at identifier bytes = do
   winner ← owner_at bytes

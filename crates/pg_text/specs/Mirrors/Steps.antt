@@ -1,4 +1,4 @@
--- Steps that may fail, and what a function that makes them answers: helpers of proofs.
+-- Steps that may fail, and what a function that makes them returns: helpers of proofs.
 use Rattle.std.specs.Prelude.{◌≡◌, ℕ, suc, zero, List, [], ◌∷◌, length, Result, Ok, Err}
 use Rattle.pg_text.specs.declared.tokens.TokenFault.{TokenFault}
 use Rattle.pg_text.specs.declared.tokens.TokenFault.TheVariants.{Syntax}
@@ -15,7 +15,7 @@ abbrev pub ◌>>=◌ : {A B : Type 0} → Read A → (A → Read B) → Read B
 (Err e) >>= f = Err e
 (Ok x) >>= f = f x
 
--- another token has to stand next
+-- another token must come next
 abbrev pub unexpected : List ℕ → TokenFault
 unexpected bytes = Syntax (length (after_space bytes))
 
@@ -34,7 +34,7 @@ abbrev pub Gives : {X Y : Type 0} → (X → Y) → Result X Refusal → Read Y 
 Gives view (Ok x) read = read ≡ Ok (view x)
 Gives view (Err e) read = Fails e read
 
--- what stands next in a list of items: one of them, or what ends the list
+-- the next part of a list of items: one of them, or what ends the list
 pub data Step (A E : Type 0) : Type 0 where
   item : A → Step A E
   stop : E → Step A E
@@ -49,6 +49,6 @@ unfoldable pub items_within : {A E : Type 0} → (List ℕ → Read (Step A E ×
 items_within step zero bytes = Err (Syntax 0)
 items_within step (suc n) bytes = step bytes >>= after_step (items_within step n)
 
--- items one after another, up to what ends them; each item takes a byte at least
+-- items one after another, up to what ends them; each item takes at least one byte
 unfoldable pub items_at : {A E : Type 0} → (List ℕ → Read (Step A E × List ℕ)) → List ℕ → Read (List A × E × List ℕ)
 items_at step bytes = items_within step (suc (length bytes)) bytes

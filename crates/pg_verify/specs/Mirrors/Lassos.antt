@@ -1,4 +1,4 @@
--- What is found of a product.
+-- Evidence about a product.
 use Rattle.std.specs.Prelude.{◌≡◌, ◌≢◌, ℕ, ◌<◌, List, [], ◌∷◌, Option, Some, None, All}
 use Rattle.pg_hoa_automaton.specs.Automata.{Automaton, letters}
 use Rattle.pg_hoa_automaton.specs.Formulas.{Formula}

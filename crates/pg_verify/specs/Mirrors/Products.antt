@@ -14,7 +14,7 @@ use Rattle.pg_verify.specs.Reached.{IsReached}
 abbrev pub pair_of : Row → Pair
 pair_of row = pair (spelt row.latches.items) row.state
 
--- each state is kept with the values of so many latches
+-- each state is stored with the values of `width` latches
 abbrev pub AreWide : ℕ → List Row → Type 0
 AreWide width rows = All (λ row. length row.latches.items ≡ width) rows
 
@@ -28,13 +28,13 @@ slot_at slots k = slice_index_or slots k 0
 abbrev pub Extends : {A : Type 0} → List A → List A → Type 0
 Extends {A} xs ys = (more : List A) × (ys ≡ xs ++ more)
 
--- `after` has the states, and behind them perhaps this one, whose number is n
+-- `after` has the states, and perhaps this one after them, whose number is n
 pub record IsNumbered (pairs : List Pair) (latches state n : ℕ) (after : List Pair) : Type 0 where
   pub grown : (after ≡ pairs) ⊎ (after ≡ pairs ++ pair latches state ∷ [])
   pub number_in : n < length after
   pub there : pair_at after n ≡ pair latches state
 
--- a slot holds a step's number, or 0 for none; so what it holds doesn't change when steps are added
+-- a slot holds a step's number, or 0 for none; so its meaning doesn't change when steps are added
 pub record IsSlot (a : Automaton) (circuit : Circuit) (pairs : List Pair) (steps : List Stored) (lists : List (List ℕ)) (k i slot : ℕ)
     : Type 0 where
   pub move : IsMove a circuit pairs k i (numbered steps lists slot)
@@ -57,12 +57,12 @@ abbrev pub AreOldOr : List Pair → List Pair → ℕ → Option Step → Type 0
 AreOldOr pairs after latches found =
     (k : ℕ) → k < length after → (k < length pairs) ⊎ ((s : Step) × (found ≡ Some s) × (pair_at after k ≡ pair latches s.target))
 
--- the step leads to a state below this
+-- the step leads to a state below the bound
 abbrev pub IsTargetBelow : ℕ → Option Step → Type 0
 IsTargetBelow bound None = Unit {0}
 IsTargetBelow bound (Some s) = s.target < bound
 
--- the slot is that of the step which the automaton's step makes with these latches; for it states, steps and lists were added
+-- the slot holds the product's step that takes the automaton's step with these latches; states, steps and lists were added for it
 pub record IsPut (pairs after : List Pair) (steps more_steps : List Stored) (lists more_lists : List (List ℕ)) (latches : ℕ)
     (found : Option Step) (slot : ℕ) : Type 0 where
   pub pairs_kept : Extends pairs after

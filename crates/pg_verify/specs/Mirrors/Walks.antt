@@ -11,7 +11,7 @@ use Rattle.pg_verify.specs.declared.verdict.Verdict.{Verdict}
 use Rattle.pg_verify.specs.declared.verdict.Verdict.TheVariants.{Accepted, Rejected, Stuck}
 use Rattle.pg_verify.specs.Mirrors.Lassos.{after, IsDeadEnd, IsRefuted}
 
--- at the vertex u, an arrival at the state, Odd chooses the letter, which leads to the vertex w that Odd wins
+-- at the vertex u, an arrival at the state, Odd chooses the letter, which leads to the vertex w, and Odd wins w
 pub record IsChosen (p : Automaton) (game : List GameVertex) (solution : List solutions.Answer) (u state letter w : ℕ) : Type 0 where
   pub answer : ℕ
   pub chosen : choice solution u ≡ Some answer
@@ -19,7 +19,7 @@ pub record IsChosen (p : Automaton) (game : List GameVertex) (solution : List so
   pub there : StandsFor p game w (arrival_of p.shape (next p state letter))
   pub won : winner solution w ≡ Odd
 
--- at an arrival u Odd chooses the letter, and that leads to the arrival w
+-- at an arrival u, Odd chooses the letter, which leads to the arrival w
 pub record Goes (p : Automaton) (game : List GameVertex) (solution : List solutions.Answer) (u letter w : ℕ) : Type 0 where
   pub state : ℕ
   pub set : Option ℕ
@@ -34,7 +34,7 @@ pub record Goes (p : Automaton) (game : List GameVertex) (solution : List soluti
 abbrev pub nth : List ℕ → ℕ → ℕ
 nth xs k = slice_index_or xs k 0
 
--- from the initial vertex on the letters lead to one visited vertex after another, the last of which Odd wins
+-- from the initial vertex on, the letters lead from one visited vertex to the next, and Odd wins the last
 pub record IsWalk (p : Automaton) (game : List GameVertex) (initial : ℕ) (solution : List solutions.Answer) (visited word : List ℕ)
     (state vertex : ℕ) : Type 0 where
   pub long : length visited ≡ length word + 1
@@ -46,12 +46,12 @@ pub record IsWalk (p : Automaton) (game : List GameVertex) (initial : ℕ) (solu
   pub won : winner solution vertex ≡ Odd
   pub reached : after p (Some p.start) word ≡ Some state
 
--- a lasso of the word's two parts
+-- the lasso of the word's two parts
 abbrev pub IsLasso : List ℕ → ℕ → Verdict → Type 0
 IsLasso word place (Rejected stem loop) = (stem.items ≡ take place word) × (loop.items ≡ drop place word)
 IsLasso word place verdict = ⊥
 
--- what a verdict that doesn't accept shows of a product
+-- a verdict that doesn't accept shows this of a product
 abbrev pub Shows : Automaton → Verdict → Type 0
 Shows p Accepted = ⊥
 Shows p (Stuck word) = IsDeadEnd p word.items

@@ -31,11 +31,11 @@ pub record Format (A : Type 0) : Type 1 where
   pub Fits : A → Type 0
   pub read : Reader A
 
--- one behind the other; the second may depend on what the first one is
+-- one format after another; the second may depend on the value of the first
 abbrev pub and_then : {A B : Type 0} → Format A → (A → Format B) → Format (A × B)
 and_then f g = record { spelled = λ p. f.spelled p.0 ++ (g p.0).spelled p.1; Fits = λ p. f.Fits p.0 × (g p.0).Fits p.1; read = both f.read (λ a. (g a).read) }
 
--- the same, with the ranges said in other words
+-- the same format, with its ranges stated in other words
 abbrev pub said : {A : Type 0} → (A → Type 0) → Format A → Format A
 said Fits f = record { spelled = f.spelled; Fits = Fits; read = f.read }
 
@@ -52,7 +52,7 @@ within low high = record { spelled = word; Fits = λ n. (low ≤ n) × (n < high
 abbrev pub number : ℕ → Format ℕ
 number low = said (λ n. (low ≤ n) × IsWord n) (within low (2 ^ 32))
 
--- a vertex, from low on, and behind a tag what is told of it
+-- a vertex, at least `low`, and what follows its tag
 abbrev pub headed : {A : Type 0} → ℕ → Format A → Format (ℕ × Option A)
 headed low f = record {
   spelled = λ p. word p.0 ++ spelling.tagged f.spelled p.1;
@@ -82,7 +82,7 @@ nothing = record { spelled = λ _. []; Fits = λ _. ⊤; read = λ bytes. Ok (tt
 
 -- ---- lists
 
--- items of a kind, each at a place that the one before it sets
+-- items of a kind, each with a place, which the item before it sets
 pub record Kind (A : Type 0) : Type 1 where
   pub spelled : A → List ℕ
   pub Stands : ℕ → A → Type 0
@@ -100,7 +100,7 @@ AreItems k at xs = AreOrdered (k.Stands at) k.IsItem k.Precedes xs
 abbrev pub so_many : {A : Type 0} → Kind A → ℕ → ℕ → Format (List A)
 so_many k n at = record { spelled = flat_map k.spelled; Fits = λ xs. (length xs ≡ n) × AreItems k at xs; read = items_at k.read k.next n at }
 
--- how many, from least on and below high, and then each
+-- the number of items, from least on and below high, and then each item
 abbrev pub listed : {A : Type 0} → Kind A → ℕ → ℕ → ℕ → Format (List A)
 listed k least high at = record {
   spelled = spelling.counted k.spelled;
@@ -119,7 +119,7 @@ rising key spelled IsItem read = record {
   read = read;
 }
 
--- ---- what stands in frames
+-- ---- the contents of frames
 
 abbrev pub successors : Kind ℕ
 successors = rising (λ n. n) word IsWord (λ low. (number low).read)

@@ -1,9 +1,9 @@
--- Lists in which each item is in its ranges and stands after those before it.
+-- Lists in which each item is in its ranges and fits after those before it.
 use Rattle.std.proofs.Common.{arith}
 use Rattle.std.specs.Prelude.{ℕ, ◌+◌, ◌<◌, ◌≤◌, ⊤, List, All}
 use Rattle.std.specs.List.{AllPairs}
 
--- each item may stand at the first place, is in its ranges, and precedes each later one
+-- each item fits at the first place, is in its ranges, and precedes each later one
 pub record AreOrdered {A : Type 0} (Stands : A → Type 0) (IsItem : A → Type 0) (Precedes : A → A → Type 0) (xs : List A) : Type 0 where
   pub stand : All Stands xs
   pub items : All IsItem xs
@@ -15,7 +15,7 @@ pub record Steps {A : Type 0} (Stands : ℕ → A → Type 0) (Precedes : A → 
   pub back : (x y : A) → Precedes x y → Stands (next x) y
   pub later : (at : ℕ) (x y : A) → Stands at x → Precedes x y → Stands at y
 
--- items whose keys rise, those whose keys fall, and those in any order
+-- items whose keys rise, items whose keys fall, and items in any order
 pub rising : {A : Type 0} (key : A → ℕ) → Steps (λ at x. at ≤ key x) (λ x y. key x < key y) (λ x. key x + 1)
 rising key = record { forth = λ x y h. Prim.omega arith; back = λ x y h. Prim.omega arith; later = λ at x y h k. Prim.omega arith }
 

@@ -1,4 +1,4 @@
--- The private readers: a field is read from the front of the bytes that are left.
+-- The private readers: a field is read from the start of the bytes that are left.
 use Rattle.std.specs.Prelude.{◌≡◌, ℕ, zero, suc, ◌%◌, ◌^◌, List, [], ◌∷◌, length, take, drop, Bool, Option, Some, None, Result, Ok}
 use Rattle.std.specs.Prelude.{Err, nat_lt, nat_le, ◌==◌, ◌&&◌, ◌||◌, if◌then◌else◌}
 use Rattle.std.specs.Int.{w32, from_be_bytes}
@@ -12,12 +12,12 @@ abbrev pub ◌>>=◌ : {A B : Type 0} → Result A FieldFault → (A → Result 
 (Ok x) >>= f = f x
 (Err e) >>= f = Err e
 
--- what a function returned is what the reader gives
+-- the function returned what the reader gives
 abbrev pub Yields : {X Y : Type 0} → (X → Y) → Result X FieldFault → Result Y FieldFault → Type 0
 Yields view (Ok x) read = read ≡ Ok (view x)
 Yields view (Err e) read = read ≡ Err e
 
--- the same, unless memory ran out
+-- the function returned what the reader gives, or memory ran out
 abbrev pub Fails : {Y : Type 0} → ReadFault → Result Y FieldFault → Type 0
 Fails faults.Memory read = Unit {0}
 Fails (faults.Field f) read = read ≡ Err f
@@ -38,11 +38,11 @@ both first second bytes = first bytes >>= λ a. second a.0 a.1 >>= λ b. Ok ((a.
 abbrev pub made : {A B : Type 0} → (A → B) → Reader A → Reader B
 made make read bytes = read bytes >>= λ a. Ok (make a.0, a.1)
 
--- the bytes after what is read
+-- the bytes after the value that is read
 abbrev pub skipped : {A : Type 0} → Reader A → List ℕ → Result (List ℕ) FieldFault
 skipped read bytes = read bytes >>= λ x. Ok x.1
 
--- each item at a place that the one before it sets
+-- each item has a place, which the item before it sets
 unfoldable pub items_at : {A : Type 0} → (ℕ → Reader A) → (A → ℕ) → ℕ → ℕ → Reader (List A)
 items_at item next zero at bytes = Ok ([], bytes)
 items_at item next (suc n) at bytes = item at bytes >>= λ x. items_at item next n (next x.0) x.1 >>= λ xs. Ok (x.0 ∷ xs.0, xs.1)
@@ -78,11 +78,11 @@ code_at status bytes = byte_at 19 bytes >>= λ c. if is_code status c.0 then Ok 
 
 -- ---- lists
 
--- how many, from least on and below high, and then each
+-- the number of items, from least on and below high, and then each item
 unfoldable pub counted_at : {A : Type 0} → (ℕ → Reader A) → (A → ℕ) → ℕ → ℕ → ℕ → Reader (List A)
 counted_at item next least high at bytes = within_at least high bytes >>= λ n. items_at item next n.0 at n.1
 
--- a vertex, from low on, and a tag, and a value where the tag is 0
+-- a vertex, at least `low`, and a tag, and a value if the tag is 0
 unfoldable pub headed_at : {A : Type 0} → ℕ → Reader A → Reader (ℕ × Option A)
 headed_at low read bytes = both (within_at low (2 ^ 32)) (λ _. byte_at 2) bytes
     >>= λ h. if h.0.1 == 0 then made (λ x. (h.0.0, Some x)) read h.1 else Ok ((h.0.0, None), h.1)

@@ -1,4 +1,4 @@
--- What a worker holds fits together.
+-- The parts of a worker fit together.
 use Rattle.std.specs.Prelude.{◌≡◌, ℕ, ◌<◌, ◌≤◌, List, Option, length, IsSome}
 use Rattle.pg_map.specs.Lines.{Line}
 use Rattle.pg_map_lift.specs.Mirrors.Lifters.{LifterValue}
@@ -9,7 +9,7 @@ pub record IsNext (lines : List (Option Line)) (next : ℕ) : Type 0 where
   pub above : (v : ℕ) → IsSome (part_line lines v) → v < next
   pub least : (n : ℕ) → ((v : ℕ) → IsSome (part_line lines v) → v < n) → next ≤ n
 
--- what holds of a worker beside what holds of its lifter: the last is for how many vertices it can list lifts
+-- facts about a worker beside those about its lifter; `listings` is the number of vertices whose lifts it can list
 pub record IsWhole (lifter : LifterValue (List (Option Line))) (next listings : ℕ) : Type 0 where
   pub size : length lifter.lines ≡ length lifter.map.measures
   pub above : IsNext lifter.lines next

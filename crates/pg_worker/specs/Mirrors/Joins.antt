@@ -1,4 +1,4 @@
--- Values that are joined to a worker's map.
+-- Values that are joined with a worker's map.
 use Rattle.std.specs.Prelude.{◌≡◌, List}
 use Rattle.pg_wire.specs.Measured.{Measured}
 use Rattle.pg_worker.specs.Workers.{WorkerValue}

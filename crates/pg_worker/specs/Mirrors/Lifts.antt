@@ -6,7 +6,7 @@ use Rattle.pg_map.specs.Lines.{Line}
 use Rattle.pg_map.specs.declared.update.Update.{Update}
 use Rattle.pg_worker.specs.Workers.{AreLifts}
 
--- lifts that make g of f, as many as P allows, of the vertices listed
+-- lifts that lead from f to g, of the vertices listed; P allows their number
 pub record AreListedLifts (bounds : BoundList) (lines : ℕ → Option Line) (f g : List MeasureValue) (vertices : List ℕ) (P : ℕ → Type 0) : Type 0 where
   pub updates : List Update
   pub lifts : AreLifts bounds lines f updates g

@@ -1,4 +1,4 @@
--- What replies are made of.
+-- The parts of replies.
 use Rattle.std.specs.Prelude.{ℕ, List, map}
 use Rattle.pg_measure.specs.Measures.{MeasureValue}
 use Rattle.pg_map.specs.Maps.{measure_at}

@@ -1,8 +1,8 @@
--- What holds of the sessions of set-ups that are well.
+-- Facts about the sessions of set-ups that are well.
 use Rattle.std.specs.Prelude.{◌<◌, ◌≤◌, ◌^◌, ℕ, length, All}
 use Rattle.pg_worker.specs.Turns.{SessionValue}
 
--- vertices and bounds are few, and four bytes hold each bound
+-- there are few vertices and bounds, and four bytes hold each bound
 pub record IsSmall (h : SessionValue) : Type 0 where
   pub vertices : length h.worker.lines ≤ 1048576
   pub bounds : length h.worker.bounds ≤ 32768

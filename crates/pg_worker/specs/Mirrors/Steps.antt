@@ -18,7 +18,7 @@ pub record Answers (f : Frame) (held held' : Option SessionValue) (input input' 
   pub read : Consumes input input' (spelling f)
   pub written : Appends output output' reply
 
--- what a step did: to what is held, to the bytes that are left to read, and to those that were written
+-- what a step did to the session's state, to the bytes that are left to read, and to the bytes that were written
 abbrev pub IsStep : Step → Option SessionValue → Option SessionValue → Option (List ℕ) → Option (List ℕ)
     → Option (List ℕ) → Option (List ℕ) → Type 0
 IsStep steps.Ended held held' input input' output output' = IsAtEnd input × (held' ≡ held) × (output' ≡ output)

@@ -1,4 +1,4 @@
--- What the functions that read a script's lines compute: a mirror of them for proofs.
+-- Mirrors, for proofs, of the functions that read a script's lines.
 use Rattle.std.specs.Prelude.{ℕ, ◌-◌, List, Option, Some, None, Ok, Err, codes, if◌then◌else◌}
 use Rattle.std.specs.Str.{bytes_eq}
 use Rattle.pg_text.specs.declared.tokens.TokenFault.{TokenFault}
@@ -26,7 +26,7 @@ two_at bytes = do
   b ← one_at a.1
   Ok ((a.0, b.0), b.1)
 
--- a line behind its word
+-- the rest of a line after its word
 unfoldable pub line_at : List ℕ → List ℕ → List ℕ → Read (ScriptLine × List ℕ)
 line_at front name rest =
     if bytes_eq name (codes "lift") then (two_at rest >>= λ x. Ok (Lift x.0.0 x.0.1, x.1))
@@ -54,7 +54,7 @@ cut_in bytes (Ok x) =
     else Ok (None, bytes)
 cut_in bytes (Err _) = Ok (None, bytes)
 
--- the numbers of a cut; nothing is taken where the word doesn't stand
+-- the numbers of a cut; nothing is read if the word isn't there
 unfoldable pub cut_at : List ℕ → Read (Option (List ℕ) × List ℕ)
 cut_at bytes = cut_in bytes (name_at bytes)
 
