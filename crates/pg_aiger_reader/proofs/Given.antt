@@ -162,12 +162,16 @@ pub none_there : (kind : Kind) (count : ℕ) (symbols : List Symbol) (names : Li
 none_there kind count symbols names place left known s there of_kind at = known s there (record {
   of_kind = of_kind;
   within = subst (λ p. p < count) (sym at) left.within;
-  other = λ (k, below, is). left.left k below (s, there, record {
-    of_kind = of_kind;
-    named = sym (get_or_default names k [] s.name below ∙ is);
-    at = at;
-    within = left.within;
-  });
+  other = λ (k, below, is). left.left k below (
+    s,
+    there,
+    record {
+      of_kind = of_kind;
+      named = sym (get_or_default names k [] s.name below ∙ is);
+      at = at;
+      within = left.within;
+    },
+  );
 })
 
 -- ---- a result that is known

@@ -1,6 +1,6 @@
 //! Matches the inputs and outputs of a circuit to the propositions of an automaton.
 
-ghost use Rattle.std.specs.Prelude.{◌≡◌, ◌==◌, ◌&&◌, ◌<◌, List, ℕ, length, map, get_or, All};
+ghost use Rattle.std.specs.Prelude.{◌≡◌, ◌<◌, List, ℕ, length, map, get_or, All};
 ghost use Rattle.std.specs.Prelude.{IfOk, IfErr, IfSome, IsNone, MatchBool, MatchOption, MatchResult, Contains, true, false};
 ghost use Rattle.pg_aiger_reader.specs.Views.{kind_in, symbol_in, circuit_in, symbols_in};
 ghost use Rattle.pg_aiger.specs.Mirrors.Layouts.{names_until};

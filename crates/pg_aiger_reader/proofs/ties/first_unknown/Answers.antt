@@ -1,4 +1,4 @@
-use Rattle.pg_aiger_reader.proofs.Common.{◌≡◌, ◌<◌, arith, cases_lt, inl, inr, length-map, map, subst, sym, get_or}
+use Rattle.pg_aiger_reader.proofs.Common.{◌≡◌, ◌<◌, arith, cases_lt, inl, inr, length-map, map, subst, sym}
 use Rattle.pg_aiger_reader.proofs.Given.{unknown_first, symbol_at, no_symbol}
 use Rattle.pg_aiger.specs.CircuitText.{Symbol}
 use Rattle.pg_aiger_reader.specs.Ties.{IsUnknown, IsFirstUnknown}

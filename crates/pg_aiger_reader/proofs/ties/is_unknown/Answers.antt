@@ -1,5 +1,5 @@
 use Rattle.pg_aiger_reader.proofs.Common.{◌≡◌, ◌∙◌, ◌<◌, true, false, [], Contains, Contains-get_or, arith, bytes_eq, bytes_eq-Decides, cases_lt, get_or}
-use Rattle.pg_aiger_reader.proofs.Common.{get_or_default, inl, inr, length, subst, sym}
+use Rattle.pg_aiger_reader.proofs.Common.{get_or_default, inl, inr, subst, sym}
 use Rattle.pg_aiger_reader.proofs.Given.{as_many, name_at, no_name}
 use Rattle.pg_aiger_reader.proofs.Places.{kind_is}
 use Rattle.pg_aiger_reader.specs.Mirrors.Places.{texts}

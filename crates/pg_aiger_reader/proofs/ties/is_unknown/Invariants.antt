@@ -1,4 +1,4 @@
-use Rattle.pg_aiger_reader.proofs.Common.{◌≡◌, ◌≢◌, ◌<◌, ℕ, [], get_or}
+use Rattle.pg_aiger_reader.proofs.Common.{◌≢◌, ◌<◌, ℕ, [], get_or}
 use Rattle.pg_aiger_reader.specs.Mirrors.Places.{texts}
 use Rattle.pg_aiger_reader.proofs.ties.is_unknown.Given as goal
 
