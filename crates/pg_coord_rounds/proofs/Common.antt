@@ -29,7 +29,7 @@ pub use Rattle.pg_measure.proofs.Order.{at_most_all}
 pub use Rattle.pg_measure.specs.Games.{IsBoundsOf}
 pub use Rattle.pg_measure.specs.Measures.{AtMost, BoundList, Fits, IsBelow, MeasureValue, zeros}
 pub use Rattle.pg_measure.specs.Views.{measure_in}
-pub use Rattle.pg_coord_partition.proofs.Fitting.{components_fit, few_components, frame_tells}
+pub use Rattle.pg_coord_partition.proofs.Fitting.{components_fit, few_components, frame_tells, well_of}
 pub use Rattle.pg_coord_partition.proofs.Joining.{joins_none}
 pub use Rattle.pg_coord_partition.proofs.Lists.{all_left, all_right}
 pub use Rattle.pg_coord_partition.proofs.Ranges.{setup_is_well}
@@ -41,7 +41,7 @@ pub use Rattle.pg_coord_partition.specs.declared.link.LinkFault.{LinkFault}
 pub use Rattle.pg_coord_partition.specs.declared.link.LinkFault.TheVariants.{Failed, OutOfMemory}
 pub use Rattle.pg_wire.proofs.Bodies.{one_frame}
 pub use Rattle.pg_wire.proofs.Nonzero.{pairs_size, words_size}
-pub use Rattle.pg_wire.proofs.Tells.{dense_told, well_of}
+pub use Rattle.pg_wire.proofs.Tells.{dense_told}
 pub use Rattle.pg_wire.specs.Bytes.{Spells}
 pub use Rattle.pg_wire.specs.Left.{IsLeft, IsNext}
 pub use Rattle.pg_wire.specs.Lines.{frame_with, line_with}

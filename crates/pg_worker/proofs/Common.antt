@@ -36,7 +36,7 @@ pub use Rattle.pg_measure.proofs.Order.{at_most_all, at_most_same, below_is}
 pub use Rattle.pg_measure.proofs.Widths.{width_is}
 pub use Rattle.pg_measure.specs.Measures.{AtMost, BoundList, Covers, Fits, MeasureValue, owned, width_from, zeros}
 pub use Rattle.pg_measure.specs.Views.{measure_in}
-pub use Rattle.pg_coord_partition.proofs.Fitting.{components_fit, few_components, frame_tells}
+pub use Rattle.pg_coord_partition.proofs.Fitting.{components_fit, few_components, frame_tells, well_of}
 pub use Rattle.pg_coord_partition.proofs.Joining.{all_none, joins_more, joins_none}
 pub use Rattle.pg_coord_partition.proofs.Lists.{all_left, all_right, pairs_left, pairs_map, pairs_right}
 pub use Rattle.pg_coord_partition.proofs.Reading.{first_is, in_row, none_left, some_is}
@@ -48,7 +48,7 @@ pub use Rattle.pg_wire.proofs.Consumed.{consumes_then, got, refused_known}
 pub use Rattle.pg_wire.proofs.Few.{few_bounds}
 pub use Rattle.pg_wire.proofs.Frames.{body_size, fields}
 pub use Rattle.pg_wire.proofs.Nonzero.{pairs_size, words_size}
-pub use Rattle.pg_wire.proofs.Tells.{dense_told, sparse_told, well_of}
+pub use Rattle.pg_wire.proofs.Tells.{dense_told, sparse_told}
 pub use Rattle.pg_wire.specs.Bytes.{IsTooLong, IsTruncated, Spells}
 pub use Rattle.pg_wire.specs.Left.{IsLeft}
 pub use Rattle.pg_wire.specs.Lines.{head_of, line_with}

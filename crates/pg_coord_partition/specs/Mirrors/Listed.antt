@@ -1,5 +1,5 @@
 -- Numbers that are listed, with a mark for each of them.
-use Rattle.std.specs.Prelude.{◌≡◌, ℕ, ◌+◌, ◌≤◌, Bool, false, List, length, cond, nat_eq, slice_index_or, count_by}
+use Rattle.std.specs.Prelude.{◌≡◌, ℕ, ◌≤◌, Bool, false, List, length, cond, nat_eq, slice_index_or, count_by}
 
 -- the number of times that the number is in the list
 abbrev pub times : ℕ → List ℕ → ℕ
