@@ -1,9 +1,9 @@
-/* parsolve: parity games solved and checked in memory, by code whose answers are proved from the numbers that it is given to the numbers
+/* parsolve: parity games solved and checked in memory, by code whose answers are proved from the numbers that it reads to the numbers
  * that it writes. docs/library.md shows a program, and docs/promises.md says what is proved.
  *
  * You pass a game in compressed sparse rows. It has a vertex for each priority; vertices count from 0. owners[v] is 0 (Even) or 1 (Odd), and
  * the successors of v are successors[starts[v]] to successors[starts[v + 1] - 1], in any order; a repeated one counts once. So `starts` has
- * one number more than `priorities`. Each vertex has a successor. Even wins a play if the greatest recurring priority is even.
+ * one more number than `priorities`. Each vertex has a successor. Even wins a play if the greatest recurring priority is even.
  *
  * The caller must ensure the following, which nothing checks:
  * - each pointer points to as many numbers as its length says, is aligned for their type, and isn't null, even if the length is 0;
@@ -21,7 +21,7 @@
 extern "C" {
 #endif
 
-/* The version of this header, and of the library that was laid out with it. */
+/* The version of this header, and of the library that came with it. */
 #define PARSOLVE_VERSION "0.2.0"
 
 /* The codes that calls return. Those from PARSOLVE_LENGTHS to PARSOLVE_SUCCESSOR are faults of a game. A call returns the first one: it looks
@@ -29,16 +29,16 @@ extern "C" {
 enum {
     PARSOLVE_OK = 0,
     PARSOLVE_OUT_OF_MEMORY = 1,
-    PARSOLVE_LENGTHS = 2,           /* there isn't an owner for each priority, or not one start more */
+    PARSOLVE_LENGTHS = 2,           /* not one owner for each priority, or not one more start */
     PARSOLVE_NO_VERTEX = 3,         /* no priority */
     PARSOLVE_TOO_MANY_VERTICES = 4, /* over 1,048,576 priorities */
     PARSOLVE_TOO_MANY_EDGES = 5,    /* over 8,388,608 successors */
     PARSOLVE_PRIORITY = 6,          /* over 65,535 */
     PARSOLVE_OWNER = 7,             /* neither 0 nor 1 */
-    PARSOLVE_START = 8,             /* a start over the next, or a next one past the successors */
-    PARSOLVE_NO_SUCCESSOR = 9,      /* a start that is the next */
-    PARSOLVE_SUCCESSOR = 10,        /* a successor that is no vertex */
-    PARSOLVE_SOLUTION_LENGTHS = 11, /* winners or strategy haven't a number for each vertex */
+    PARSOLVE_START = 8,             /* a start greater than the next, or a next start past the successors */
+    PARSOLVE_NO_SUCCESSOR = 9,      /* a start equal to the next */
+    PARSOLVE_SUCCESSOR = 10,        /* a successor that isn't a vertex */
+    PARSOLVE_SOLUTION_LENGTHS = 11, /* winners or strategy don't have one number for each vertex */
     PARSOLVE_WINNER = 12,           /* a winner that is neither 0 nor 1 */
     PARSOLVE_CHOICE = 13,           /* a winner that owns its vertex and chooses no successor there */
     PARSOLVE_LEAVES = 14,
@@ -126,7 +126,7 @@ struct parsolve_game {
 uint32_t parsolve_solve(const struct parsolve_game *game, uint8_t *winners, size_t winners_length, uint32_t *strategy,
                         size_t strategy_length, uint32_t *vertex);
 
-/* The evidence against a solution. A call leaves the fields as they were that its answer doesn't name. */
+/* The evidence against a solution. A call doesn't change fields that its answer doesn't name. */
 struct parsolve_found {
     uint32_t vertex;
     uint32_t to;
@@ -137,7 +137,7 @@ struct parsolve_found {
  * PARSOLVE_OK: the solution is sound; the call returns this if and only if it is.
  * PARSOLVE_LEAVES: an edge that follows the strategy leads from found->vertex to found->to, where the other player wins: the least such edge.
  * PARSOLVE_CYCLE: the greatest priority on a cycle that follows the strategy is the loser's. The cycle has found->length vertices, which are
- * at the front of `cycle` if they fit, as they do if it has a number for each vertex of the game; otherwise `cycle` is as it was.
+ * at the front of `cycle` if they fit, as they do if `cycle` has a number for each vertex of the game; otherwise it is as it was.
  * PARSOLVE_LENGTHS to PARSOLVE_CHOICE, PARSOLVE_OUT_OF_MEMORY: the call checked nothing. The faults of the game come first, then the lengths
  * of the solution, then the first bad winner, then the first bad choice. found->vertex is the vertex at fault, if the fault has one. */
 uint32_t parsolve_check(const struct parsolve_game *game, const uint8_t *winners, size_t winners_length, const uint32_t *strategy,
@@ -173,10 +173,10 @@ struct parsolve_text {
     size_t bytes_length;
 };
 
-/* The value of such a text before a call. */
+/* The initial value of such a text, before a call. */
 #define PARSOLVE_NO_TEXT {(uint8_t *)"", 0}
 
-/* The same in memory that the library allocates, so the command runs once, however long the text is. Initialise *text before the call.
+/* The same, in memory that the library allocates, so the command runs only once, however long the text is. Initialise *text before the call.
  * PARSOLVE_OK: *text is what the command prints.
  * PARSOLVE_FAULT: the command prints nothing, and *text is the line of its fault.
  * PARSOLVE_COMMAND, if and only if there is no such command; PARSOLVE_OUT_OF_MEMORY: *text is as it was.

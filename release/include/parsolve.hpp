@@ -29,7 +29,7 @@ struct Game {
     }
 };
 
-/* The winner of each vertex, and its move at the vertices that it owns; PARSOLVE_NO_CHOICE at the others. */
+/* The winner of each vertex, and the winner's move if the winner owns the vertex, otherwise PARSOLVE_NO_CHOICE. */
 struct Solution {
     std::vector<std::uint8_t> winners;
     std::vector<std::uint32_t> strategy;

@@ -1,4 +1,4 @@
-"""What `pip install FOLDER/python` calls: it makes a wheel of the package beside it, and needs nothing that pip would have to fetch."""
+"""What `pip install FOLDER/python` calls: it makes a wheel of the package beside it, and needs nothing that pip must fetch."""
 import base64
 import hashlib
 import pathlib
@@ -26,7 +26,7 @@ def row(name, content):
 
 
 def build_wheel(wheel_directory, config_settings=None, metadata_directory=None):
-    """Writes the wheel into the folder; answers its name."""
+    """Writes the wheel into the folder, and returns its name."""
     files = {f"parsolve/{name}": (PACKAGE / name).read_bytes() for name in ("__init__.py", "py.typed", "libparsolve.so")}
     files |= {f"{NAME}.dist-info/METADATA": METADATA.encode(), f"{NAME}.dist-info/WHEEL": WHEEL.encode()}
     record = f"{NAME}.dist-info/RECORD"

@@ -1,5 +1,5 @@
-"""Solves and checks parity games in this process, with a library whose answers are proved, from the numbers that it reads to those that it
-writes.
+"""Solves and checks parity games in this process, with a library whose answers are proved, from the numbers that it reads to the numbers
+that it writes.
 
     >>> import parsolve
     >>> game = parsolve.Game([2, 1], [1, 0], [[0, 1], [0, 1]])
@@ -10,10 +10,10 @@ writes.
     >>> parsolve.answer("solve", b"0 2 1 0,1;\\n1 1 0 0,1;\\n")
     b'paritysol 1;\\n0 0;\\n1 0 0;\\n'
 
-The library reads numbers without a copy if they lie in memory as C has them: one after the other, 32 bits each, or 8 bits for owners and
-winners. An `array.array` does, and so does a NumPy array of `uint32` or `uint8`. No other thread may change them while a call runs. All
-other numbers are copied, and a value that is no number, too large or negative raises a `TypeError` or a `ValueError`. You can't interrupt a
-call: Ctrl-C takes effect when it returns.
+The library reads numbers without a copy if they are contiguous in memory, as in C, with 32 bits each, or 8 bits for owners and winners. This
+holds for an `array.array` and for a NumPy array of `uint32` or `uint8`. No other thread may change them while a call runs. All other numbers
+are copied, and a value that isn't a number, is too large or is negative raises a `TypeError` or a `ValueError`. You can't interrupt a call:
+Ctrl-C takes effect when it returns.
 """
 from __future__ import annotations
 
@@ -104,7 +104,7 @@ def _library():
 
 
 def _freeing():
-    """The function that frees a text of the library: `free` of the C library, whose `malloc` made it."""
+    """The function that frees a text of the library: `free` of the C library, whose `malloc` allocated it."""
     free = ctypes.CDLL(None).free
     free.argtypes, free.restype = [ctypes.c_void_p], None
     return free
@@ -114,7 +114,7 @@ _LIBRARY, _FREE = _library(), _freeing()
 
 
 def _fits(name, numbers):
-    """Whether numbers lie in memory one after the other, each with the size of an array of this name."""
+    """Whether numbers are contiguous in memory, each with the size of an item in an array of this name."""
     try:
         view = memoryview(numbers)
     except TypeError:
@@ -126,7 +126,7 @@ def _fits(name, numbers):
 
 
 def _extend(made, name, numbers):
-    """Appends numbers to an array of this name, one after the other."""
+    """Appends numbers to an array of this name, one by one."""
     try:
         made.extend(iter(numbers))
     except OverflowError:
@@ -147,7 +147,7 @@ def _numbers(name, numbers):
 
 def _passed(name, numbers):
     """The pointer and the length of numbers, as two arguments, and an object to keep until the call has returned. Numbers that are read-only
-    or not aligned are copied, too."""
+    or not aligned are copied too."""
     view = memoryview(_numbers(name, numbers))
     kept = ctypes.c_char.from_buffer(bytearray(view) or bytearray(8) if view.readonly or not view else view)
     if ctypes.addressof(kept) % view.itemsize:
@@ -197,7 +197,7 @@ class Game:
         return (numpy.asarray(winners), numpy.asarray(strategy)) if is_numpy else (winners, strategy)
 
     def solve(self) -> tuple[list[int], list[int | None]]:
-        """Returns the winner of each vertex, and its move at the vertices that it owns, None at the others."""
+        """Returns the winner of each vertex, and the winner's move if the winner owns the vertex, otherwise None."""
         winners, strategy = self.solve_arrays()
         return winners.tolist(), [None if it == NO_CHOICE else it for it in strategy.tolist()]
 
@@ -227,7 +227,7 @@ def _wants_ok(code, vertex=NO_CHOICE):
 
 
 def _taken(text):
-    """The bytes of a text of the library, which this frees."""
+    """Returns the bytes of a text of the library, and frees it."""
     try:
         return ctypes.string_at(text.bytes, text.bytes_length)
     finally:
