@@ -10,6 +10,7 @@ and `Lemmas` list. So
 - each name of docs/definitions.md is defined in the file named beside it;
 - each call and law that the README and the pages of docs/ name exists, and so does each clause, definition and edit of
   docs/promises.md, whose first table names the edits that the gate tries;
+- no two crates have a public type of one name;
 - five crates of the kit are used where the product is meant to use them, and the README says that they are trusted.
 
     tests/layout.py    corrects both documents if no text must be written: numbers of lines, files that are gone or new, the file of a
@@ -221,6 +222,17 @@ def edits():
         yield name, None if is_there else f"isn't in edits/{crate}, though docs/promises.md says so"
 
 
+def types():
+    """A public type has a name that no other crate's public type has."""
+    homes = {}
+    for path in sorted(CRATES.glob("*/src/**/*.rt")):
+        if not is_of_tests(path):
+            for name in re.findall(r"^pub (?:struct|enum|trait|type) (\w+)", path.read_text(), re.M):
+                homes.setdefault(name, set()).add(path.relative_to(CRATES).parts[0])
+    for name, crates in sorted(homes.items()):
+        yield name, None if len(crates) == 1 else f"in {' and '.join(sorted(crates))}"
+
+
 def kit():
     """The same for each crate of the kit that KIT names, in each crate that must use it."""
     listed = dict(re.findall(r"^(\w+)[^:\n]*:(.*)", (TOP / "crates.txt").read_text(), re.M))
@@ -274,7 +286,7 @@ def write_definitions():
     DEFINITIONS.write_text("\n".join(text))
 
 
-Tests = case.tests(__name__, imports, rows_of_map, rows_of_chains, exceptions, entries, calls, promises, edits, kit)
+Tests = case.tests(__name__, imports, rows_of_map, rows_of_chains, exceptions, entries, calls, promises, edits, types, kit)
 
 
 if __name__ == "__main__":

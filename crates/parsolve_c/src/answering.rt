@@ -16,7 +16,7 @@ use crate::code::{
     PARSOLVE_FAULT, PARSOLVE_OK, PARSOLVE_OUT_OF_MEMORY, PARSOLVE_TOO_SHORT,
 };
 use crate::copying::copy_bytes;
-use pg_cli_command::{CliFault, Command, MOST_BYTES, answer, write_fault};
+use pg_cli_command::{CliFault, Command, MOST_BYTES, write_answer_by, write_fault};
 use pg_cli_in_one_piece::InOnePiece;
 use std::alloc::{AllocError, Global};
 
@@ -58,7 +58,7 @@ fn answered(alloc: Global, command: Command, input: &[u8]) -> Result<Vec<u8>, Cl
         return Err(CliFault::OutOfMemory);
     };
     let mut output = Vec::new(alloc);
-    answer(alloc, command, text, &mut InOnePiece, &mut output)?;
+    write_answer_by(alloc, command, text, &mut InOnePiece, &mut output)?;
     Ok(output)
 }
 

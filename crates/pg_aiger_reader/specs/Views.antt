@@ -1,13 +1,13 @@
 -- The values that are read, apart from where they are in memory.
 use Rattle.std.specs.Prelude.{ℕ, List, map}
 use Rattle.pg_aiger_reader.specs.declared.reader.Parts.{Parts}
-use Rattle.pg_aiger_reader.specs.declared.symbol.Kind as declared
-use Rattle.pg_aiger_reader.specs.declared.symbol.Kind.TheVariants as kinds
+use Rattle.pg_aiger_reader.specs.declared.symbol.SymbolKind as declared
+use Rattle.pg_aiger_reader.specs.declared.symbol.SymbolKind.TheVariants as kinds
 use Rattle.pg_aiger_reader.specs.declared.symbol.Symbol as symbols
 use Rattle.pg_aiger.specs.Circuits.{Circuit}
 use Rattle.pg_aiger.specs.CircuitText.{Kind, input, latch, output, Symbol}
 
-abbrev pub kind_in : declared.Kind → Kind
+abbrev pub kind_in : declared.SymbolKind → Kind
 kind_in kinds.Input = input
 kind_in kinds.Latch = latch
 kind_in kinds.Output = output

@@ -17,5 +17,5 @@ pub use fault::{ReaderFault, Section, SideFault, TieFault};
 pub use name::Name;
 pub use pg_aiger::{Gate, Latch};
 pub use reader::{Parts, read_circuit};
-pub use symbol::{Kind, Symbol};
+pub use symbol::{Symbol, SymbolKind};
 pub use ties::tie;

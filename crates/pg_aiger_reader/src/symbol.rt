@@ -14,7 +14,7 @@ use std::alloc::Global;
 
 /// What a symbol names.
 #[derive(Clone, Copy, Debug, PartialEq, Eq)]
-pub enum Kind {
+pub enum SymbolKind {
     Input,
     Latch,
     Output,
@@ -23,7 +23,7 @@ pub enum Kind {
 /// The name of an input, a latch or an output. It borrows the text.
 #[derive(Clone, Copy, Debug)]
 pub struct Symbol<'a> {
-    pub kind: Kind,
+    pub kind: SymbolKind,
     /// Its index among its kind, from 0.
     pub position: u32,
     /// Any bytes but a newline.
@@ -31,13 +31,13 @@ pub struct Symbol<'a> {
 }
 
 /// Returns the kind that a letter stands for, if there is one.
-fn kind_of(letter: u8) -> Option<Kind>
+fn kind_of(letter: u8) -> Option<SymbolKind>
     ensures { option_map kind_in result ≡ kind_at letter }
 {
     match letter {
-        b'i' => Some(Kind::Input),
-        b'l' => Some(Kind::Latch),
-        b'o' => Some(Kind::Output),
+        b'i' => Some(SymbolKind::Input),
+        b'l' => Some(SymbolKind::Latch),
+        b'o' => Some(SymbolKind::Output),
         _ => None,
     }
 }
@@ -98,13 +98,13 @@ fn read_symbol(bytes: &[u8]) -> Result<(Symbol<'_>, &[u8]), ReaderFault>
 }
 
 /// Returns how many of a kind there are.
-fn count_of(header: &Header, kind: Kind) -> u32
+fn count_of(header: &Header, kind: SymbolKind) -> u32
     ensures { result ≡ count_in header.now (kind_in kind) }
 {
     match kind {
-        Kind::Input => header.inputs,
-        Kind::Latch => header.latches,
-        Kind::Output => header.outputs,
+        SymbolKind::Input => header.inputs,
+        SymbolKind::Latch => header.latches,
+        SymbolKind::Output => header.outputs,
     }
 }
 

@@ -13,7 +13,7 @@ ghost use Rattle.pg_aiger_reader.specs.Mirrors.Places.{is_kind, noted, IsPlaceOf
 use crate::fault::{SideFault, TieFault};
 use crate::name::Name;
 use crate::reader::Parts;
-use crate::symbol::{Kind, Symbol};
+use crate::symbol::{Symbol, SymbolKind};
 use pg_hoa_automaton::Automaton;
 use std::alloc::{AllocError, Global};
 
@@ -25,17 +25,19 @@ pub(crate) enum Place {
     Twice,
 }
 
-fn is_kind(one: Kind, other: Kind) -> bool
+fn is_kind(one: SymbolKind, other: SymbolKind) -> bool
     ensures { result ≡ is_kind (kind_in one) (kind_in other) }
 {
     matches!(
         (one, other),
-        (Kind::Input, Kind::Input) | (Kind::Latch, Kind::Latch) | (Kind::Output, Kind::Output)
+        (SymbolKind::Input, SymbolKind::Input)
+            | (SymbolKind::Latch, SymbolKind::Latch)
+            | (SymbolKind::Output, SymbolKind::Output)
     )
 }
 
 /// Returns the place of a name, after one more symbol.
-fn noted(found: Place, kind: Kind, count: usize, name: &[u8], symbol: &Symbol<'_>) -> Place
+fn noted(found: Place, kind: SymbolKind, count: usize, name: &[u8], symbol: &Symbol<'_>) -> Place
     ensures { result ≡ noted found (kind_in kind) count name.now (symbol_in symbol.now) }
 {
     let position = symbol.position as usize;
@@ -50,7 +52,7 @@ fn noted(found: Place, kind: Kind, count: usize, name: &[u8], symbol: &Symbol<'_
 }
 
 /// Returns the place to which the symbols of a kind give a name, among the first `count` positions.
-fn place_of(kind: Kind, count: usize, symbols: &[Symbol<'_>], name: &[u8]) -> Place
+fn place_of(kind: SymbolKind, count: usize, symbols: &[Symbol<'_>], name: &[u8]) -> Place
     ensures { IsPlaceOf (kind_in kind) count (map symbol_in symbols.now) name.now result }
 {
     let mut found = Place::Missing;
@@ -72,7 +74,7 @@ fn position_of(places: &[usize], place: usize) -> Option<usize>
 /// has no place of its own.
 fn places_of(
     alloc: Global,
-    kind: Kind,
+    kind: SymbolKind,
     count: usize,
     symbols: &[Symbol<'_>],
     names: &[&[u8]],
@@ -113,7 +115,7 @@ fn left(places: &[usize], count: usize) -> Option<usize>
 }
 
 /// Whether the symbol gives a place of the kind a name that isn't among the names.
-fn is_unknown(kind: Kind, count: usize, names: &[&[u8]], symbol: &Symbol<'_>) -> bool
+fn is_unknown(kind: SymbolKind, count: usize, names: &[&[u8]], symbol: &Symbol<'_>) -> bool
     ensures { MatchBool result (IsUnknown (kind_in kind) count (texts names.now) (symbol_in symbol.now))
         (¬ IsUnknown (kind_in kind) count (texts names.now) (symbol_in symbol.now)) }
 {
@@ -130,7 +132,7 @@ fn is_unknown(kind: Kind, count: usize, names: &[&[u8]], symbol: &Symbol<'_>) ->
 
 /// Returns the first symbol that gives a place of the kind a name that isn't among the names, if there is one.
 fn first_unknown<'a>(
-    kind: Kind,
+    kind: SymbolKind,
     count: usize,
     names: &[&[u8]],
     symbols: &[Symbol<'a>],
@@ -162,7 +164,7 @@ fn selected(alloc: Global, literals: &[u32], places: &[usize]) -> Result<Vec<u32
 /// Returns the literals of the names in their order, matched by symbols.
 fn by_symbols(
     alloc: Global,
-    kind: Kind,
+    kind: SymbolKind,
     symbols: &[Symbol<'_>],
     names: &[&[u8]],
     literals: &[u32],
@@ -208,7 +210,7 @@ fn in_order(
 fn side(
     alloc: Global,
     by_place: bool,
-    kind: Kind,
+    kind: SymbolKind,
     symbols: &[Symbol<'_>],
     names: &[&[u8]],
     literals: Vec<u32>,
@@ -230,7 +232,7 @@ fn has_latches_alone(symbols: &[Symbol<'_>]) -> bool
         (((s : text.Symbol) → Contains (map symbol_in symbols.now) s → s.kind ≡ latch) → ⊥) }
 {
     for i in 0..symbols.len() {
-        if !is_kind(symbols[i].kind, Kind::Latch) {
+        if !is_kind(symbols[i].kind, SymbolKind::Latch) {
             return false;
         }
     }
@@ -295,12 +297,19 @@ pub fn tie<'a>(
         return Err(TieFault::NoSymbols);
     }
     let names = names_of(alloc, automaton, false)?;
-    let inputs = match side(alloc, by_place, Kind::Input, &symbols, &names, inputs)? {
+    let inputs = match side(alloc, by_place, SymbolKind::Input, &symbols, &names, inputs)? {
         Ok(inputs) => inputs,
         Err(fault) => return Err(TieFault::Inputs(fault)),
     };
     let names = names_of(alloc, automaton, true)?;
-    let outputs = match side(alloc, by_place, Kind::Output, &symbols, &names, outputs)? {
+    let outputs = match side(
+        alloc,
+        by_place,
+        SymbolKind::Output,
+        &symbols,
+        &names,
+        outputs,
+    )? {
         Ok(outputs) => outputs,
         Err(fault) => return Err(TieFault::Outputs(fault)),
     };

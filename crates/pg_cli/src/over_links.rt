@@ -7,7 +7,7 @@ ghost use Rattle.pg_cli.specs.Linked.{IsLeastOverTold};
 ghost use Rattle.pg_cli.specs.Mirrors.Finding.{IsFoundIf};
 
 use pg_arena::{Game, dual};
-use pg_cli_command::{Proposal, Solver, Untranslated};
+use pg_cli_command::{ProposedCircuit, Solver, Untranslated};
 use pg_cli_in_one_piece::InOnePiece;
 use pg_coord::{Link, solve, solve_within};
 use pg_coord_partition::fits_worker;
@@ -126,7 +126,11 @@ impl<L: Link> Solver for OverLinks<'_, L> {
         }
     }
 
-    fn propose(&self, alloc: Global, automaton: &Automaton) -> Result<Vec<Proposal>, AllocError> {
+    fn propose(
+        &self,
+        alloc: Global,
+        automaton: &Automaton,
+    ) -> Result<Vec<ProposedCircuit>, AllocError> {
         InOnePiece.propose(alloc, automaton)
     }
 
@@ -143,7 +147,7 @@ impl<L: Link> Solver for OverLinks<'_, L> {
         &self,
         alloc: Global,
         automaton: &Automaton,
-    ) -> Result<Vec<Proposal>, AllocError> {
+    ) -> Result<Vec<ProposedCircuit>, AllocError> {
         InOnePiece.propose_environment(alloc, automaton)
     }
 

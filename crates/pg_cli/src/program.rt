@@ -132,7 +132,7 @@ pub(crate) fn answer_over<L: Link, W: Write>(
     ensures untouched { IfErr result (λ fault. fault ≢ CliFault.Write → writer.new ≡ writer.old) }
 {
     let mut solver = OverLinks { links, rounds };
-    pg_cli_command::answer(alloc, command, text, &mut solver, writer)
+    pg_cli_command::write_answer_by(alloc, command, text, &mut solver, writer)
 }
 
 /// As `run`, over the given links, at most 16. If the command solves a game, the game is cut evenly among them, and

@@ -9,26 +9,26 @@ use Rattle.pg_aiger_reader.specs.Texts.{IsRead}
 use Rattle.pg_aiger_reader.specs.Ties.{IsTied}
 use Rattle.pg_verify.specs.Laws.{VerdictsDecide}
 use Rattle.pg_verify.specs.Verdicts.{IsAcceptance, IsCorrect, Says}
-use Rattle.pg_verify.specs.declared.verdict.Verdict.{Verdict}
-use Rattle.pg_verify.specs.declared.verdict.Verdict.TheVariants.{Accepted, Stuck, Rejected}
+use Rattle.pg_verify.specs.declared.verdict.CircuitVerdict.{CircuitVerdict}
+use Rattle.pg_verify.specs.declared.verdict.CircuitVerdict.TheVariants.{Accepted, Stuck, Rejected}
 use Rattle.pg_cli_command.specs.Parts.{AreApart}
 use Rattle.pg_cli_command.specs.Verifying.{ArePaired, IsVerified, verdict_text}
 use Rattle.pg_cli_command.specs.Verdicts.{accepted, ShowsStuck, ShowsRejected, Decides, VerifyDecides}
 
 -- the first letter tells
-only_accepted : (given tied : List ℕ) (verdict : Verdict) → verdict_text given tied verdict ≡ accepted → IsAcceptance verdict
+only_accepted : (given tied : List ℕ) (verdict : CircuitVerdict) → verdict_text given tied verdict ≡ accepted → IsAcceptance verdict
 only_accepted given tied Accepted e = tt
 only_accepted given tied (Stuck letters) e =
     let first : ◌≡◌ {A = ℕ} 83 65 = ap (λ (l : List ℕ). get_or l 0 0) e in absurd (omega arith)
 only_accepted given tied (Rejected stem loop) e =
     let first : ◌≡◌ {A = ℕ} 82 65 = ap (λ (l : List ℕ). get_or l 0 0) e in absurd (omega arith)
 
-text_of_accepted : (given tied : List ℕ) (verdict : Verdict) → IsAcceptance verdict → verdict_text given tied verdict ≡ accepted
+text_of_accepted : (given tied : List ℕ) (verdict : CircuitVerdict) → IsAcceptance verdict → verdict_text given tied verdict ≡ accepted
 text_of_accepted given tied Accepted is = refl
 text_of_accepted given tied (Stuck letters) is = absurd is
 text_of_accepted given tied (Rejected stem loop) is = absurd is
 
-shows : (a : Automaton) (condition : Formula) (given tied : Circuit) (verdict : Verdict) (output : List ℕ) → Says a condition tied verdict
+shows : (a : Automaton) (condition : Formula) (given tied : Circuit) (verdict : CircuitVerdict) (output : List ℕ) → Says a condition tied verdict
     → output ≡ verdict_text given.inputs tied.inputs verdict
     → (output ≡ accepted) ⊎ (ShowsStuck a given tied output ⊎ ShowsRejected a condition given tied output)
 shows a condition given tied Accepted output says e = inl e

@@ -13,8 +13,8 @@ use Rattle.pg_hoa.specs.Outputs.{HasOutputs, with_outputs}
 use Rattle.pg_ltl.specs.Formulas as ltl
 use Rattle.pg_ltl.specs.Laws as formulas
 use Rattle.pg_means.specs.Verdicts.{IsWordOver, own_word, IsSatisfied, AreSame, AreApart, Says}
-use Rattle.pg_means.specs.declared.verdict.Verdict.{Verdict}
-use Rattle.pg_means.specs.declared.verdict.Verdict.TheVariants.{Same, Differs}
+use Rattle.pg_means.specs.declared.verdict.FormulaVerdict.{FormulaVerdict}
+use Rattle.pg_means.specs.declared.verdict.FormulaVerdict.TheVariants.{Same, Differs}
 use Rattle.pg_means_texts.specs.Names.{all_names, places_of}
 use Rattle.pg_means_texts.specs.Comparing.{IsCompared}
 use Rattle.pg_means_texts.specs.Printing.{verdict_text}
@@ -35,20 +35,20 @@ not_both a condition n places f false list back are apart =
 
 module _ (a : Automaton) (condition : Formula) (own : List (List ℕ)) (f : ltl.Formula) (names : List (List ℕ))
     (all : names ≡ all_names a.propositions own) (output : List ℕ) where
-  is_same : (verdict : Verdict) → Says a condition (length names) (places_of names own) f verdict → output ≡ verdict_text names verdict
+  is_same : (verdict : FormulaVerdict) → Says a condition (length names) (places_of names own) f verdict → output ≡ verdict_text names verdict
       → output ≡ same → AreTheSame a condition own f
   is_same Same says e s = subst (λ (ns : List (List ℕ)). AreSame a condition (length ns) (places_of ns own) f) all says
   is_same (Differs accepted letters back) says e s =
       let first : ◌≡◌ {A = ℕ} 68 83 = ap (λ (l : List ℕ). get_or l 0 0) (sym e ∙ s) in absurd (omega arith)
 
-  then_same : (verdict : Verdict) → Says a condition (length names) (places_of names own) f verdict → output ≡ verdict_text names verdict
+  then_same : (verdict : FormulaVerdict) → Says a condition (length names) (places_of names own) f verdict → output ≡ verdict_text names verdict
       → AreTheSame a condition own f → output ≡ same
   then_same Same says e are = e
   then_same (Differs accepted letters back) says e are =
       absurd (not_both a condition (length names) (places_of names own) f accepted letters.items back
       (subst (λ (ns : List (List ℕ)). AreSame a condition (length ns) (places_of ns own) f) (sym all) are) says)
 
-  shows : (verdict : Verdict) → Says a condition (length names) (places_of names own) f verdict → output ≡ verdict_text names verdict
+  shows : (verdict : FormulaVerdict) → Says a condition (length names) (places_of names own) f verdict → output ≡ verdict_text names verdict
       → (output ≡ same) ⊎ ShowsApart a condition own f output
   shows Same says e = inl e
   shows (Differs accepted letters back) says e = inr (record {
@@ -62,7 +62,7 @@ module _ (a : Automaton) (condition : Formula) (own : List (List ℕ)) (f : ltl.
   })
 
 module _ (one_automaton : OneReading) (one_formula : formulas.OneReading) where
-  tells : (first second output : List ℕ) (names : List (List ℕ)) (verdict : Verdict) → IsCompared first second names verdict
+  tells : (first second output : List ℕ) (names : List (List ℕ)) (verdict : FormulaVerdict) → IsCompared first second names verdict
       → output ≡ verdict_text names verdict → Tells first second output
   tells first second output names verdict c printed =
       let condition = c.paired.spelt.says.condition in

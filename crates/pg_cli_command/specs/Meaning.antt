@@ -4,7 +4,7 @@ use Rattle.pg_hoa_automaton.specs.Automata.{Automaton}
 use Rattle.pg_ltl.specs.Texts.{IsRefused}
 use Rattle.pg_ltl.specs.declared.fault.FormulaFault.{FormulaFault}
 use Rattle.pg_ltl.specs.declared.fault.FormulaFault.TheVariants as formula
-use Rattle.pg_means.specs.declared.verdict.Verdict.{Verdict}
+use Rattle.pg_means.specs.declared.verdict.FormulaVerdict.{FormulaVerdict}
 use Rattle.pg_means.specs.declared.fault.MeansFault.TheVariants as means
 use Rattle.pg_means_texts.specs.Comparing.{IsCompared, Refuses}
 use Rattle.pg_means_texts.specs.Printing.{verdict_text}
@@ -24,7 +24,7 @@ pub record IsMeant (Parts : Parting) (output : List ℕ) : Type 0 where
   pub second : List ℕ
   pub parted : Parts first second
   pub names : List (List ℕ)
-  pub verdict : Verdict
+  pub verdict : FormulaVerdict
   pub compared : IsCompared first second names verdict
   pub printed : output ≡ verdict_text names verdict
 

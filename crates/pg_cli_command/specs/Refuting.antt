@@ -15,8 +15,8 @@ use Rattle.pg_verify.specs.Reached.{HasTooManyStates}
 use Rattle.pg_verify.specs.declared.fault.VerifyFault.TheVariants as verify
 use Rattle.pg_verify_environment.specs.Counterparts.{IsCounterpart, IsTooLarge}
 use Rattle.pg_verify_environment.specs.Environments.{Says}
-use Rattle.pg_verify_environment.specs.declared.outcome.Outcome.{Outcome}
-use Rattle.pg_verify_environment.specs.declared.outcome.Outcome.TheVariants.{Refutes, Answered}
+use Rattle.pg_verify_environment.specs.declared.outcome.EnvironmentVerdict.{EnvironmentVerdict}
+use Rattle.pg_verify_environment.specs.declared.outcome.EnvironmentVerdict.TheVariants.{Refutes, Answered}
 use Rattle.pg_cli_command.specs.Parts.{Parting}
 use Rattle.pg_cli_command.specs.Measuring.{MapKind}
 use Rattle.pg_cli_command.specs.Making.{IsNoAutomaton}
@@ -26,7 +26,7 @@ use Rattle.pg_cli_command.specs.declared.fault.CliFault.TheVariants as cli
 use Rattle.pg_cli_command.specs.declared.fault.CliFault.TheVariants.{NoSeparator, Hoa, Tie, Netlist, Verify, Hearing, Synth, Undecided}
 
 -- `REFUTES`; or `FAILS`, lines, a line `loop`, and the lines that repeat
-abbrev pub outcome_text : List ℕ → List ℕ → Outcome → List ℕ
+abbrev pub outcome_text : List ℕ → List ℕ → EnvironmentVerdict → List ℕ
 outcome_text given tied Refutes = codes "REFUTES\n"
 outcome_text given tied (Answered stem loop) =
     codes "FAILS\n" ++ (letter_lines given tied stem.items ++ (codes "loop\n" ++ letter_lines given tied loop.items))
@@ -53,7 +53,7 @@ pub record IsRefuted (Parts : Parting) (by_place : Bool) (output : List ℕ) : T
   pub opposed : AreOpposed Parts by_place automaton given tied
   pub acyclic : IsAcyclic tied
   pub moore : IsMoore tied
-  pub outcome : Outcome
+  pub outcome : EnvironmentVerdict
   pub says : Says automaton opposed.spelt.says.condition tied outcome
   pub printed : output ≡ outcome_text given.inputs tied.inputs outcome
 

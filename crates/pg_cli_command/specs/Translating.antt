@@ -2,7 +2,7 @@
 use Rattle.std.specs.Prelude.{ℕ, List}
 use Rattle.pg_ltl.specs.Formulas.{Formula}
 use Rattle.pg_ltl.specs.Texts.{Spelt}
-use Rattle.pg_means.specs.declared.verdict.Verdict.TheVariants.{Same}
+use Rattle.pg_means.specs.declared.verdict.FormulaVerdict.TheVariants.{Same}
 use Rattle.pg_means.specs.declared.fault.MeansFault.TheVariants.{TooLarge}
 use Rattle.pg_means_texts.specs.Comparing.{IsCompared}
 use Rattle.pg_cli_command.specs.Meaning.{IsNoFormula}

@@ -16,8 +16,8 @@ use Rattle.pg_aiger_reader.specs.declared.fault.TieFault.{TieFault}
 use Rattle.pg_verify.specs.Products.{IsProductOf, HasLargeGame}
 use Rattle.pg_verify.specs.Reached.{HasTooManyStates}
 use Rattle.pg_verify.specs.Verdicts.{Says}
-use Rattle.pg_verify.specs.declared.verdict.Verdict.{Verdict}
-use Rattle.pg_verify.specs.declared.verdict.Verdict.TheVariants.{Accepted, Stuck, Rejected}
+use Rattle.pg_verify.specs.declared.verdict.CircuitVerdict.{CircuitVerdict}
+use Rattle.pg_verify.specs.declared.verdict.CircuitVerdict.TheVariants.{Accepted, Stuck, Rejected}
 use Rattle.pg_verify.specs.declared.fault.VerifyFault.TheVariants as verify
 use Rattle.pg_cli_command.specs.Parts.{Parting}
 use Rattle.pg_cli_command.specs.Measuring.{MapKind}
@@ -43,7 +43,7 @@ abbrev pub letter_lines : List ℕ → List ℕ → List ℕ → List ℕ
 letter_lines given tied letters = flat_map (letter_line given tied) letters
 
 -- `ACCEPTED`; or `STUCK` and a line for each step; or `REJECTED`, lines, a line `loop`, and the lines that repeat
-abbrev pub verdict_text : List ℕ → List ℕ → Verdict → List ℕ
+abbrev pub verdict_text : List ℕ → List ℕ → CircuitVerdict → List ℕ
 verdict_text given tied Accepted = codes "ACCEPTED\n"
 verdict_text given tied (Stuck letters) = codes "STUCK\n" ++ letter_lines given tied letters.items
 verdict_text given tied (Rejected stem loop) =
@@ -68,7 +68,7 @@ pub record IsVerified (Parts : Parting) (by_place : Bool) (output : List ℕ) : 
   pub paired : ArePaired Parts by_place automaton given tied
   pub acyclic : IsAcyclic tied
   pub within : ¬ HasTooManyStates automaton tied
-  pub verdict : Verdict
+  pub verdict : CircuitVerdict
   pub says : Says automaton paired.spelt.says.condition tied verdict
   pub printed : output ≡ verdict_text given.inputs tied.inputs verdict
 

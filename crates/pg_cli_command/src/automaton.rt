@@ -6,10 +6,10 @@ ghost use Rattle.pg_cli_command.specs.Translating.{IsTranslated, RefusesAutomato
 ghost use Rattle.pg_cli_command.specs.Mirrors.Working.{ShowsWhat, Fails};
 
 use crate::fault::CliFault;
-use crate::printing::Answer;
+use crate::printing::CommandAnswer;
 use crate::solver::Solver;
 use pg_ltl::read_formula;
-use pg_means_texts::{MeansFault, Verdict, compare};
+use pg_means_texts::{FormulaVerdict, MeansFault, compare};
 use std::alloc::Global;
 use std::io::Write;
 
@@ -19,7 +19,7 @@ pub(crate) struct Translated {
     automaton: Vec<u8>,
 }
 
-impl Answer for Translated {
+impl CommandAnswer for Translated {
     ghost is_whole = { λ _. Unit {0} };
 
     ghost shows = { λ a output. output ≡ a.automaton.items };
@@ -35,7 +35,7 @@ fn is_shown(alloc: Global, automaton: &[u8], formula: &[u8]) -> Result<bool, Cli
     ensures refused { IfErr result (λ fault. (fault ≡ CliFault.OutOfMemory) ⊎ (fault ≡ CliFault.Means means.TooLarge)) }
 {
     match compare(alloc, automaton, formula) {
-        Ok(compared) => Ok(matches!(compared.verdict, Verdict::Same)),
+        Ok(compared) => Ok(matches!(compared.verdict, FormulaVerdict::Same)),
         Err(fault) => match CliFault::from(fault) {
             CliFault::OutOfMemory => Err(CliFault::OutOfMemory),
             CliFault::Means(MeansFault::TooLarge) => Err(CliFault::Means(MeansFault::TooLarge)),
@@ -52,8 +52,8 @@ pub(crate) fn automaton<F: Solver>(
     text: Vec<u8>,
     solver: &F,
 ) -> Result<Translated, CliFault>
-    ensures whole { IfOk result ⟦<Translated as Answer>⟧.is_whole }
-    ensures answer { IfOk result (ShowsWhat (IsTranslated text.items) ⟦<Translated as Answer>⟧.shows) }
+    ensures whole { IfOk result ⟦<Translated as CommandAnswer>⟧.is_whole }
+    ensures answer { IfOk result (ShowsWhat (IsTranslated text.items) ⟦<Translated as CommandAnswer>⟧.shows) }
     ensures refused { IfErr result (Fails (RefusesAutomaton text.items)) }
 {
     let (names, formula) = read_formula(alloc, &text)?;

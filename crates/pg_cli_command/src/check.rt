@@ -10,7 +10,7 @@ ghost use Rattle.pg_cli_command.specs.Mirrors.Working.{ShowsWhat, Fails};
 
 use crate::fault::CliFault;
 use crate::parts::Texts;
-use crate::printing::Answer;
+use crate::printing::CommandAnswer;
 use pg_arena::{Game, Vertex};
 use pg_check::Verdict;
 use pg_text::writing::{write_identifiers, write_number};
@@ -63,7 +63,7 @@ pub(crate) struct Checked {
     verdict: Verdict,
 }
 
-impl Answer for Checked {
+impl CommandAnswer for Checked {
     ghost is_whole = { λ a. IsWithin a.game a.verdict };
 
     ghost shows = { λ a output. output ≡ verdict_text a.game a.verdict };
@@ -75,8 +75,8 @@ impl Answer for Checked {
 
 /// Returns the checker's verdict on the solution that the second text spells, for the game of the first text.
 pub(crate) fn check(alloc: Global, texts: Texts) -> Result<Checked, CliFault>
-    ensures whole { IfOk result ⟦<Checked as Answer>⟧.is_whole }
-    ensures answer { IfOk result (ShowsWhat (IsChecked (parting_of texts)) ⟦<Checked as Answer>⟧.shows) }
+    ensures whole { IfOk result ⟦<Checked as CommandAnswer>⟧.is_whole }
+    ensures answer { IfOk result (ShowsWhat (IsChecked (parting_of texts)) ⟦<Checked as CommandAnswer>⟧.shows) }
     ensures refused { IfErr result (Fails (RefusesCheck (parting_of texts))) }
 {
     match texts.both() {

@@ -11,8 +11,8 @@ ghost use Rattle.pg_cli_command.specs.Mirrors.Synthesised.{Fits};
 ghost use Rattle.pg_cli_command.specs.Mirrors.Working.{ShowsWhat, Fails};
 
 use crate::fault::CliFault;
-use crate::printing::Answer;
-use crate::solver::{Proposal, Solver};
+use crate::printing::CommandAnswer;
+use crate::solver::{ProposedCircuit, Solver};
 use crate::synth::{Synthesised, synth, write_realized};
 use crate::verify::verdict_on;
 use pg_aiger::{AigerFault, Circuit, write_circuit};
@@ -20,7 +20,7 @@ use pg_aiger_netlist::{Netlist, NetlistFault};
 use pg_hoa::Automaton;
 use pg_synth::count_controlled;
 use pg_verify::VerifyFault;
-use pg_verify_environment::{Outcome, counterpart, outcome_of};
+use pg_verify_environment::{EnvironmentVerdict, counterpart, outcome_of};
 use std::alloc::Global;
 use std::io::Write;
 
@@ -51,7 +51,7 @@ fn write_countered<W: Write>(
     write_circuit(circuit, automaton, writer)
 }
 
-impl Answer for Countered {
+impl CommandAnswer for Countered {
     ghost is_whole = { λ a. Fits a.automaton (Some a.circuit) };
 
     ghost shows = { λ a output. output ≡ countered_text a.is_realized a.automaton a.circuit };
@@ -67,11 +67,11 @@ impl Answer for Countered {
 }
 
 /// Returns the proposed circuit, if it is one and has the propositions of the automaton.
-fn circuit_for(automaton: &Automaton, proposal: Proposal) -> Option<Circuit>
+fn circuit_for(automaton: &Automaton, proposal: ProposedCircuit) -> Option<Circuit>
     requires { IsAutomaton automaton.now }
     ensures { IfSome result (IsShaped automaton.now) }
 {
-    let Proposal {
+    let ProposedCircuit {
         nexts,
         outputs,
         gates,
@@ -112,8 +112,8 @@ fn refutes<F: Solver>(
     }
     match verdict_on(alloc, twin, &netlist, solver) {
         Ok(verdict) => match outcome_of(verdict) {
-            Outcome::Refutes => Ok(true),
-            Outcome::Answered(..) => Ok(false),
+            EnvironmentVerdict::Refutes => Ok(true),
+            EnvironmentVerdict::Answered(..) => Ok(false),
         },
         Err(CliFault::OutOfMemory) => Err(CliFault::OutOfMemory),
         Err(_) => Ok(false),
@@ -152,9 +152,9 @@ pub(crate) fn synth_counter<F: Solver>(
     text: Vec<u8>,
     solver: &mut F,
 ) -> Result<Countered, CliFault>
-    ensures whole { IfOk result ⟦<Countered as Answer>⟧.is_whole }
+    ensures whole { IfOk result ⟦<Countered as CommandAnswer>⟧.is_whole }
     ensures answer { IfOk result
-        (ShowsWhat (IsSynthesisedCounter (F.finds solver.old) text.items) ⟦<Countered as Answer>⟧.shows) }
+        (ShowsWhat (IsSynthesisedCounter (F.finds solver.old) text.items) ⟦<Countered as CommandAnswer>⟧.shows) }
     ensures refused { IfErr result (Fails (RefusesCounter (F.finds solver.old) text.items)) }
 {
     let Synthesised { automaton, circuit } = synth(alloc, text, solver)?;

@@ -6,7 +6,7 @@ ghost use Rattle.pg_cli_command.specs.Making.{IsMade, RefusesGame};
 ghost use Rattle.pg_cli_command.specs.Mirrors.Working.{ShowsWhat, Fails};
 
 use crate::fault::CliFault;
-use crate::printing::Answer;
+use crate::printing::CommandAnswer;
 use pg_arena::Game;
 use pg_hoa::read_automaton;
 use pg_synth::game_of;
@@ -14,7 +14,7 @@ use pg_text::write_game;
 use std::alloc::Global;
 use std::io::Write;
 
-impl Answer for Game {
+impl CommandAnswer for Game {
     ghost is_whole = { λ _. Unit {0} };
 
     ghost shows = { λ game output. output ≡ game_text game };
@@ -26,8 +26,8 @@ impl Answer for Game {
 
 /// Makes the game of the automaton that a text spells. Frees the text before it makes the game.
 pub(crate) fn game(alloc: Global, text: Vec<u8>) -> Result<Game, CliFault>
-    ensures whole { IfOk result ⟦<Game as Answer>⟧.is_whole }
-    ensures answer { IfOk result (ShowsWhat (IsMade text.items) ⟦<Game as Answer>⟧.shows) }
+    ensures whole { IfOk result ⟦<Game as CommandAnswer>⟧.is_whole }
+    ensures answer { IfOk result (ShowsWhat (IsMade text.items) ⟦<Game as CommandAnswer>⟧.shows) }
     ensures refused { IfErr result (Fails (RefusesGame text.items)) }
 {
     let automaton = read_automaton(alloc, &text)?;

@@ -33,6 +33,6 @@ pub use memory::in_memory;
 pub use parts::part_texts;
 pub use pg_cli_words::Command;
 pub use program::{
-    answer, check_texts, means_texts, refute_texts, replay_texts, run_by, verify_texts,
+    check_texts, means_texts, refute_texts, replay_texts, run_by, verify_texts, write_answer_by,
 };
-pub use solver::{Proposal, Solver, Untranslated};
+pub use solver::{ProposedCircuit, Solver, Untranslated};

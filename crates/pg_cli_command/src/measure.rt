@@ -7,7 +7,7 @@ ghost use Rattle.pg_cli_command.specs.Mirrors.Working.{ShowsWhat, Fails};
 
 use crate::fault::CliFault;
 use crate::output::write_measure_line;
-use crate::printing::Answer;
+use crate::printing::CommandAnswer;
 use crate::solver::Solver;
 use pg_arena::{Game, Vertex};
 use pg_map::Measures;
@@ -49,7 +49,7 @@ pub(crate) struct Measured<M> {
     room: Vec<u32>,
 }
 
-impl<M: Measures + Drop> Answer for Measured<M> {
+impl<M: Measures + Drop> CommandAnswer for Measured<M> {
     ghost is_whole = { λ a. (length (M.map a.map).measures ≡ length a.game)
         × (length a.room.items ≡ length (M.map a.map).bounds) };
 
@@ -71,11 +71,11 @@ pub(crate) fn measure<F: Solver>(
     text: Vec<u8>,
     solver: &mut F,
 ) -> Result<Measured<F::Map>, CliFault>
-    ensures whole { IfOk result ⟦<Measured<F::Map> as Answer>⟧.is_whole }
+    ensures whole { IfOk result ⟦<Measured<F::Map> as CommandAnswer>⟧.is_whole }
     ensures answer { IfOk result
-        (ShowsWhat (IsMeasured (F.finds solver.old) text.items) ⟦<Measured<F::Map> as Answer>⟧.shows) }
+        (ShowsWhat (IsMeasured (F.finds solver.old) text.items) ⟦<Measured<F::Map> as CommandAnswer>⟧.shows) }
     ensures measured { IfOk result
-        (ShowsWhat (IsMeasured (F.measures solver.old) text.items) ⟦<Measured<F::Map> as Answer>⟧.shows) }
+        (ShowsWhat (IsMeasured (F.measures solver.old) text.items) ⟦<Measured<F::Map> as CommandAnswer>⟧.shows) }
     ensures refused { IfErr result (Fails (RefusesMeasure text.items)) }
 {
     let game = read_game(alloc, &text)?;

@@ -7,7 +7,7 @@ use crate::fault::CliFault;
 use std::io::Write;
 
 /// The answer that a command worked out from an input: a value whose text isn't written yet.
-pub(crate) trait Answer {
+pub(crate) trait CommandAnswer {
     /// What must hold of an answer that is written.
     ghost is_whole: { Self → Type 0 };
 
@@ -22,7 +22,7 @@ pub(crate) trait Answer {
 }
 
 /// Writes the text of an answer. If there is a fault instead, returns the fault and writes nothing. Fails with `Write` if the writer fails.
-pub(crate) fn print<A: Answer, W: Write>(
+pub(crate) fn print<A: CommandAnswer, W: Write>(
     worked_out: Result<A, CliFault>,
     writer: &mut W,
 ) -> Result<(), CliFault>

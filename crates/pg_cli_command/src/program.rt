@@ -59,7 +59,7 @@ fn write_look<F: Solver, W: Write>(
 
 /// Writes the answer to a text of at most `MOST_BYTES` bytes, and nothing else, as `run_by` does after it has read its input. It fails as
 /// `run_by` does from `NoSeparator` on, in the same order, and never with `Read` or `InputTooLong`.
-pub fn answer<F: Solver, W: Write>(
+pub fn write_answer_by<F: Solver, W: Write>(
     alloc: Global,
     command: Command,
     text: Vec<u8>,
@@ -208,5 +208,5 @@ pub fn run_by<F: Solver, R: Read, W: Write>(
     ensures unused { IsNone (workers_of command) → solver.new ≡ solver.old }
 {
     let text = read_input(alloc, reader)?;
-    answer(alloc, command, text, solver, writer)
+    write_answer_by(alloc, command, text, solver, writer)
 }

@@ -8,13 +8,13 @@ ghost use Rattle.pg_cli_command.specs.Mirrors.Working.{ShowsWhat, Fails};
 
 use crate::fault::CliFault;
 use crate::parts::Texts;
-use crate::printing::Answer;
+use crate::printing::CommandAnswer;
 use crate::solver::Solver;
 use crate::verify::{verdict_on, write_letters};
 use pg_aiger_netlist::Netlist;
 use pg_aiger_reader::{read_circuit, tie};
 use pg_hoa::read_automaton;
-use pg_verify_environment::{Outcome, counterpart, outcome_of};
+use pg_verify_environment::{EnvironmentVerdict, counterpart, outcome_of};
 use std::alloc::Global;
 use std::io::{self, Write};
 
@@ -24,7 +24,7 @@ use std::io::{self, Write};
 pub(crate) struct Refuted {
     given: Vec<u32>,
     tied: Vec<u32>,
-    outcome: Outcome,
+    outcome: EnvironmentVerdict,
 }
 
 /// Writes an outcome.
@@ -32,13 +32,13 @@ fn write_outcome<W: Write>(
     writer: &mut W,
     given: &[u32],
     tied: &[u32],
-    outcome: &Outcome,
+    outcome: &EnvironmentVerdict,
 ) -> io::Result<()>
     ensures { OnOk result (Appends (W.contents writer.old) (W.contents writer.new) (outcome_text given.now tied.now outcome.now)) }
 {
     match outcome {
-        Outcome::Refutes => writer.write_all(b"REFUTES\n"),
-        Outcome::Answered(stem, round) => {
+        EnvironmentVerdict::Refutes => writer.write_all(b"REFUTES\n"),
+        EnvironmentVerdict::Answered(stem, round) => {
             writer.write_all(b"FAILS\n")?;
             write_letters(writer, given, tied, stem)?;
             writer.write_all(b"loop\n")?;
@@ -47,7 +47,7 @@ fn write_outcome<W: Write>(
     }
 }
 
-impl Answer for Refuted {
+impl CommandAnswer for Refuted {
     ghost is_whole = { λ _. Unit {0} };
 
     ghost shows = { λ a output. output ≡ outcome_text a.given.items a.tied.items a.outcome };
@@ -64,8 +64,8 @@ pub(crate) fn refute<F: Solver>(
     by_place: bool,
     solver: &mut F,
 ) -> Result<Refuted, CliFault>
-    ensures whole { IfOk result ⟦<Refuted as Answer>⟧.is_whole }
-    ensures answer { IfOk result (ShowsWhat (IsRefuted (parting_of texts) by_place) ⟦<Refuted as Answer>⟧.shows) }
+    ensures whole { IfOk result ⟦<Refuted as CommandAnswer>⟧.is_whole }
+    ensures answer { IfOk result (ShowsWhat (IsRefuted (parting_of texts) by_place) ⟦<Refuted as CommandAnswer>⟧.shows) }
     ensures refused { IfErr result (Fails (RefusesRefute (F.finds solver.old) (parting_of texts) by_place)) }
 {
     match texts.both() {

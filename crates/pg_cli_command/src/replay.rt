@@ -10,7 +10,7 @@ ghost use Rattle.pg_cli_command.specs.Mirrors.Working.{ShowsWhat, Fails};
 
 use crate::fault::CliFault;
 use crate::parts::Texts;
-use crate::printing::Answer;
+use crate::printing::CommandAnswer;
 use crate::world_output::write_world;
 use pg_arena::Game;
 use pg_text::read_game;
@@ -18,7 +18,7 @@ use pg_world::{Script, World, laws, read_script};
 use std::alloc::Global;
 use std::io::Write;
 
-impl Answer for World {
+impl CommandAnswer for World {
     ghost is_whole = { λ w. All (λ u. u.vertex < length w.game) w.updates };
 
     ghost shows = { λ w output. (maps : List (List MeasureValue)) × AreMapsOf w maps × (output ≡ world_text w maps) };
@@ -47,8 +47,8 @@ fn scripted(alloc: Global, texts: &Texts) -> Result<(Game, Script), CliFault>
 /// Returns the world after the events of the script that the second text spells, for the game of the first text. Frees the texts before the
 /// events happen.
 pub(crate) fn replay(alloc: Global, texts: Texts) -> Result<World, CliFault>
-    ensures whole { IfOk result ⟦<World as Answer>⟧.is_whole }
-    ensures answer { IfOk result (ShowsWhat (IsReplayed (parting_of texts)) ⟦<World as Answer>⟧.shows) }
+    ensures whole { IfOk result ⟦<World as CommandAnswer>⟧.is_whole }
+    ensures answer { IfOk result (ShowsWhat (IsReplayed (parting_of texts)) ⟦<World as CommandAnswer>⟧.shows) }
     ensures refused { IfErr result (Fails (RefusesReplay (parting_of texts))) }
 {
     let (game, script) = scripted(alloc, &texts)?;

@@ -8,14 +8,14 @@ ghost use Rattle.pg_cli_command.specs.Mirrors.Synthesised.{Fits};
 ghost use Rattle.pg_cli_command.specs.Mirrors.Working.{ShowsWhat, Fails};
 
 use crate::fault::CliFault;
-use crate::printing::Answer;
-use crate::solver::{Proposal, Solver};
+use crate::printing::CommandAnswer;
+use crate::solver::{ProposedCircuit, Solver};
 use crate::synth::{Synthesised, synth};
 use crate::verify::verdict_on;
 use pg_aiger::Circuit;
 use pg_aiger_netlist::{Netlist, NetlistFault};
 use pg_hoa::Automaton;
-use pg_verify::Verdict;
+use pg_verify::CircuitVerdict;
 use std::alloc::Global;
 
 /// Whether the automaton accepts each run of the circuit. Returns false if that can't be determined. Fails only if memory runs out.
@@ -35,7 +35,7 @@ fn is_accepted<F: Solver>(
         Err(_) => return Ok(false),
     };
     match verdict_on(alloc, automaton, &netlist, solver) {
-        Ok(Verdict::Accepted) => Ok(true),
+        Ok(CircuitVerdict::Accepted) => Ok(true),
         Ok(_) => Ok(false),
         Err(CliFault::OutOfMemory) => Err(CliFault::OutOfMemory),
         Err(_) => Ok(false),
@@ -49,11 +49,11 @@ fn size_of(circuit: &Circuit) -> usize {
 }
 
 /// Returns the proposed circuit if it has as many inputs and outputs as the plain one and is smaller.
-fn smaller_one(plain: &Circuit, proposal: Proposal) -> Option<Circuit>
+fn smaller_one(plain: &Circuit, proposal: ProposedCircuit) -> Option<Circuit>
     ensures { IfSome result (λ circuit. IsShapedAs plain.now circuit) }
 {
     let (inputs, _, outputs, _) = plain.parts();
-    let Proposal {
+    let ProposedCircuit {
         nexts,
         outputs: literals,
         gates,
@@ -100,9 +100,9 @@ pub(crate) fn synth_small<F: Solver>(
     text: Vec<u8>,
     solver: &mut F,
 ) -> Result<Synthesised, CliFault>
-    ensures whole { IfOk result ⟦<Synthesised as Answer>⟧.is_whole }
+    ensures whole { IfOk result ⟦<Synthesised as CommandAnswer>⟧.is_whole }
     ensures answer { IfOk result
-        (ShowsWhat (IsSynthesisedSmall (F.finds solver.old) text.items) ⟦<Synthesised as Answer>⟧.shows) }
+        (ShowsWhat (IsSynthesisedSmall (F.finds solver.old) text.items) ⟦<Synthesised as CommandAnswer>⟧.shows) }
     ensures refused { IfErr result (Fails (RefusesSynth (F.finds solver.old) text.items)) }
 {
     let Synthesised { automaton, circuit } = synth(alloc, text, solver)?;

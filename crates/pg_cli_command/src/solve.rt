@@ -7,7 +7,7 @@ ghost use Rattle.pg_cli_command.specs.Solving.{IsSolved, IsSolvedAnyhow, Refuses
 ghost use Rattle.pg_cli_command.specs.Mirrors.Working.{ShowsWhat, Fails};
 
 use crate::fault::CliFault;
-use crate::printing::Answer;
+use crate::printing::CommandAnswer;
 use crate::solution::{any_solution_of, solution_of};
 use crate::solver::Solver;
 use pg_arena::Game;
@@ -22,7 +22,7 @@ pub(crate) struct Solved {
     solution: Solution,
 }
 
-impl Answer for Solved {
+impl CommandAnswer for Solved {
     ghost is_whole = { λ a. IsSolution a.game a.solution };
 
     ghost shows = { λ a output. output ≡ solution_text a.game a.solution };
@@ -38,8 +38,8 @@ pub(crate) fn solve<F: Solver>(
     text: Vec<u8>,
     solver: &mut F,
 ) -> Result<Solved, CliFault>
-    ensures whole { IfOk result ⟦<Solved as Answer>⟧.is_whole }
-    ensures answer { IfOk result (ShowsWhat (IsSolved (F.finds solver.old) text.items) ⟦<Solved as Answer>⟧.shows) }
+    ensures whole { IfOk result ⟦<Solved as CommandAnswer>⟧.is_whole }
+    ensures answer { IfOk result (ShowsWhat (IsSolved (F.finds solver.old) text.items) ⟦<Solved as CommandAnswer>⟧.shows) }
     ensures refused { IfErr result (Fails (RefusesSolve (F.finds solver.old) text.items)) }
 {
     let game = read_game(alloc, &text)?;
@@ -56,8 +56,8 @@ pub(crate) fn solve_any<F: Solver>(
     text: Vec<u8>,
     solver: &mut F,
 ) -> Result<Solved, CliFault>
-    ensures whole { IfOk result ⟦<Solved as Answer>⟧.is_whole }
-    ensures answer { IfOk result (ShowsWhat (IsSolvedAnyhow text.items) ⟦<Solved as Answer>⟧.shows) }
+    ensures whole { IfOk result ⟦<Solved as CommandAnswer>⟧.is_whole }
+    ensures answer { IfOk result (ShowsWhat (IsSolvedAnyhow text.items) ⟦<Solved as CommandAnswer>⟧.shows) }
     ensures refused { IfErr result (Fails (RefusesSolve (F.finds solver.old) text.items)) }
 {
     let game = read_game(alloc, &text)?;

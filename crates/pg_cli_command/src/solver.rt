@@ -17,7 +17,7 @@ use std::alloc::{AllocError, Global};
 /// the inputs, then the latches, then the gates. Each gate is over literals of smaller variables, and names the greater literal first. A
 /// literal is twice its variable, plus one if it is negated.
 #[derive(Drop)]
-pub struct Proposal {
+pub struct ProposedCircuit {
     pub nexts: Vec<u32>,
     pub outputs: Vec<u32>,
     pub gates: Vec<Gate>,
@@ -58,7 +58,11 @@ pub trait Solver {
 
     /// Proposes small circuits, the smallest first; there may be none. The automaton should accept each of their runs, but nothing is
     /// believed of them. Fails only if memory runs out.
-    fn propose(&self, alloc: Global, automaton: &Automaton) -> Result<Vec<Proposal>, AllocError>;
+    fn propose(
+        &self,
+        alloc: Global,
+        automaton: &Automaton,
+    ) -> Result<Vec<ProposedCircuit>, AllocError>;
 
     /// Returns the text of an automaton in HOA v1. The automaton should accept exactly the words that satisfy the formula, but nothing is
     /// believed of it. `names` has the names of the formula's propositions.
@@ -76,7 +80,7 @@ pub trait Solver {
         &self,
         alloc: Global,
         automaton: &Automaton,
-    ) -> Result<Vec<Proposal>, AllocError>;
+    ) -> Result<Vec<ProposedCircuit>, AllocError>;
 
     ghost closed: { (solver : Self) (game : List GameVertex) (map : MapValue) → finds solver game map
         → IsClosedMapOf game map };

@@ -9,7 +9,7 @@ ghost use Rattle.pg_cli_command.specs.Mirrors.Synthesised.{Fits, outcome_text};
 ghost use Rattle.pg_cli_command.specs.Mirrors.Working.{ShowsWhat, Fails};
 
 use crate::fault::CliFault;
-use crate::printing::Answer;
+use crate::printing::CommandAnswer;
 use crate::solution::solution_of;
 use crate::solver::Solver;
 use pg_aiger::{AigerFault, Circuit, circuit_of, write_circuit};
@@ -39,7 +39,7 @@ pub(crate) struct Synthesised {
     pub circuit: Option<Circuit>,
 }
 
-impl Answer for Synthesised {
+impl CommandAnswer for Synthesised {
     ghost is_whole = { λ a. Fits a.automaton a.circuit };
 
     ghost shows = { λ a output. output ≡ outcome_text a.automaton a.circuit };
@@ -60,9 +60,9 @@ pub(crate) fn synth<F: Solver>(
     text: Vec<u8>,
     solver: &mut F,
 ) -> Result<Synthesised, CliFault>
-    ensures whole { IfOk result ⟦<Synthesised as Answer>⟧.is_whole }
+    ensures whole { IfOk result ⟦<Synthesised as CommandAnswer>⟧.is_whole }
     ensures answer { IfOk result
-        (ShowsWhat (IsSynthesised (F.finds solver.old) text.items) ⟦<Synthesised as Answer>⟧.shows) }
+        (ShowsWhat (IsSynthesised (F.finds solver.old) text.items) ⟦<Synthesised as CommandAnswer>⟧.shows) }
     ensures spelt { IfOk result (λ found. Spelt text.items found.automaton) }
     ensures automaton { IfOk result (λ found. IsAutomaton found.automaton) }
     ensures refused { IfErr result (Fails (RefusesSynth (F.finds solver.old) text.items)) }

@@ -15,14 +15,14 @@ ghost use Rattle.pg_cli_command.specs.Mirrors.Working.{ShowsWhat, Fails};
 
 use crate::fault::CliFault;
 use crate::parts::Texts;
-use crate::printing::Answer;
+use crate::printing::CommandAnswer;
 use crate::solution::any_solution_of;
 use crate::solver::Solver;
 use pg_aiger_netlist::Netlist;
 use pg_aiger_reader::{read_circuit, tie};
 use pg_hoa::{Automaton, read_automaton};
 use pg_synth::game_of;
-use pg_verify::{Verdict, product_of, verdict_of};
+use pg_verify::{CircuitVerdict, product_of, verdict_of};
 use std::alloc::Global;
 use std::io::{self, Write};
 
@@ -83,7 +83,7 @@ pub(crate) fn write_letters<W: Write>(
 pub(crate) struct Verified {
     given: Vec<u32>,
     tied: Vec<u32>,
-    verdict: Verdict,
+    verdict: CircuitVerdict,
 }
 
 /// Writes a verdict.
@@ -91,17 +91,17 @@ fn write_verdict<W: Write>(
     writer: &mut W,
     given: &[u32],
     tied: &[u32],
-    verdict: &Verdict,
+    verdict: &CircuitVerdict,
 ) -> io::Result<()>
     ensures { OnOk result (Appends (W.contents writer.old) (W.contents writer.new) (verdict_text given.now tied.now verdict.now)) }
 {
     match verdict {
-        Verdict::Accepted => writer.write_all(b"ACCEPTED\n"),
-        Verdict::Stuck(letters) => {
+        CircuitVerdict::Accepted => writer.write_all(b"ACCEPTED\n"),
+        CircuitVerdict::Stuck(letters) => {
             writer.write_all(b"STUCK\n")?;
             write_letters(writer, given, tied, letters)
         }
-        Verdict::Rejected(stem, round) => {
+        CircuitVerdict::Rejected(stem, round) => {
             writer.write_all(b"REJECTED\n")?;
             write_letters(writer, given, tied, stem)?;
             writer.write_all(b"loop\n")?;
@@ -110,7 +110,7 @@ fn write_verdict<W: Write>(
     }
 }
 
-impl Answer for Verified {
+impl CommandAnswer for Verified {
     ghost is_whole = { λ _. Unit {0} };
 
     ghost shows = { λ a output. output ≡ verdict_text a.given.items a.tied.items a.verdict };
@@ -126,7 +126,7 @@ pub(crate) fn verdict_on<F: Solver>(
     automaton: &Automaton,
     netlist: &Netlist,
     solver: &mut F,
-) -> Result<Verdict, CliFault>
+) -> Result<CircuitVerdict, CliFault>
     requires inputs { length netlist.now.inputs ≡ inputs automaton.now.controllable }
     requires outputs { length netlist.now.outputs ≡ outputs automaton.now.controllable }
     ensures says { IfOk result (λ verdict. (condition : Formula) → FitsShape condition automaton.now.sets automaton.now.shape
@@ -149,8 +149,8 @@ pub(crate) fn verify<F: Solver>(
     by_place: bool,
     solver: &mut F,
 ) -> Result<Verified, CliFault>
-    ensures whole { IfOk result ⟦<Verified as Answer>⟧.is_whole }
-    ensures answer { IfOk result (ShowsWhat (IsVerified (parting_of texts) by_place) ⟦<Verified as Answer>⟧.shows) }
+    ensures whole { IfOk result ⟦<Verified as CommandAnswer>⟧.is_whole }
+    ensures answer { IfOk result (ShowsWhat (IsVerified (parting_of texts) by_place) ⟦<Verified as CommandAnswer>⟧.shows) }
     ensures refused { IfErr result (Fails (RefusesVerify (F.finds solver.old) (parting_of texts) by_place)) }
 {
     match texts.both() {

@@ -3,7 +3,7 @@
 
 use pg_aiger::Gate;
 use pg_arena::Game;
-use pg_cli_command::{Proposal, Solver, Untranslated};
+use pg_cli_command::{ProposedCircuit, Solver, Untranslated};
 use pg_hoa::Automaton;
 use pg_ltl::Formula;
 use pg_search::{propose, propose_measure};
@@ -28,7 +28,11 @@ fn inputs_of(automaton: &Automaton) -> u32 {
 
 /// Returns the gates of a proposal. The first gate has the literal `first`, and the literal of each later gate is greater by 2. Each gate
 /// has its greater operand first.
-fn gates_of(alloc: Global, first: u32, gates: &[pg_small::Gate]) -> Result<Vec<Gate>, AllocError> {
+fn gates_of(
+    alloc: Global,
+    first: u32,
+    gates: &[pg_small::Conjunction],
+) -> Result<Vec<Gate>, AllocError> {
     let mut list = Vec::new(alloc);
     let mut lhs = first;
     for gate in gates {
@@ -46,8 +50,8 @@ fn gates_of(alloc: Global, first: u32, gates: &[pg_small::Gate]) -> Result<Vec<G
 fn all_numbered(
     alloc: Global,
     automaton: &Automaton,
-    found: Vec<pg_small::Proposal>,
-) -> Result<Vec<Proposal>, AllocError> {
+    found: Vec<pg_small::SmallCircuit>,
+) -> Result<Vec<ProposedCircuit>, AllocError> {
     let inputs = inputs_of(automaton);
     let mut proposals = Vec::new(alloc);
     for it in found {
@@ -57,10 +61,14 @@ fn all_numbered(
 }
 
 /// Returns a proposal for an automaton with `inputs` inputs, numbered as circuits are.
-fn numbered(alloc: Global, inputs: u32, found: pg_small::Proposal) -> Result<Proposal, AllocError> {
+fn numbered(
+    alloc: Global,
+    inputs: u32,
+    found: pg_small::SmallCircuit,
+) -> Result<ProposedCircuit, AllocError> {
     let latches = u32::try_from(found.latches.len()).unwrap_or(u32::MAX);
     let first = inputs.saturating_add(latches).saturating_add(1);
-    Ok(Proposal {
+    Ok(ProposedCircuit {
         gates: gates_of(alloc, first.saturating_mul(2), &found.gates)?,
         nexts: found.latches,
         outputs: found.outputs,
@@ -86,7 +94,11 @@ impl Solver for InOnePiece {
         pg_solver::solve(alloc, game, proposals)
     }
 
-    fn propose(&self, alloc: Global, automaton: &Automaton) -> Result<Vec<Proposal>, AllocError> {
+    fn propose(
+        &self,
+        alloc: Global,
+        automaton: &Automaton,
+    ) -> Result<Vec<ProposedCircuit>, AllocError> {
         all_numbered(alloc, automaton, pg_small::propose(alloc, automaton)?)
     }
 
@@ -108,7 +120,7 @@ impl Solver for InOnePiece {
         &self,
         alloc: Global,
         automaton: &Automaton,
-    ) -> Result<Vec<Proposal>, AllocError> {
+    ) -> Result<Vec<ProposedCircuit>, AllocError> {
         all_numbered(alloc, automaton, pg_small::propose_moore(alloc, automaton)?)
     }
 

@@ -14,11 +14,11 @@ use Rattle.pg_cli_command.specs.Replaying.{IsReplayed}
 use Rattle.pg_cli_command.specs.Refuting.{IsLookedAt}
 use Rattle.pg_cli_command.specs.Meaning.{IsMeant}
 use Rattle.pg_cli_command.specs.Answers.{PrintsBy}
-use Rattle.pg_cli_request.specs.declared.pair.Pair.{Pair}
-use Rattle.pg_cli_request.specs.declared.pair.Pair.TheVariants.{Check, Replay, Means, Verify}
+use Rattle.pg_cli_request.specs.declared.pair.PairCommand.{PairCommand}
+use Rattle.pg_cli_request.specs.declared.pair.PairCommand.TheVariants.{Check, Replay, Means, Verify}
 
 -- the command as one that is given two texts
-abbrev pub pair_of : Command → Option Pair
+abbrev pub pair_of : Command → Option PairCommand
 pair_of commands.Check = Some Check
 pair_of commands.Replay = Some Replay
 pair_of commands.Means = Some Means
@@ -28,7 +28,7 @@ pair_of command = None
 -- the input of a command: one text, or two texts, each by itself
 pub data Input : Type 0 where
   Whole : List ℕ → Input
-  Apart : Pair → List ℕ → List ℕ → Input
+  Apart : PairCommand → List ℕ → List ℕ → Input
 
 -- the number of bytes of one input with both texts and a line `--` between them
 abbrev pub joined_length : List ℕ → List ℕ → ℕ
@@ -65,7 +65,7 @@ IsNamed outs command (Whole text) (Whole named) = HasNamed outs text named
 IsNamed outs command given input = ⊥
 
 -- what a command prints for two texts, each by itself
-abbrev pub PrintsOfPair : Pair → List ℕ → List ℕ → List ℕ → Type 0
+abbrev pub PrintsOfPair : PairCommand → List ℕ → List ℕ → List ℕ → Type 0
 PrintsOfPair Check first second output = IsChecked (AreApart first second) output
 PrintsOfPair Replay first second output = IsReplayed (AreApart first second) output
 PrintsOfPair Means first second output = IsMeant (AreApart first second) output

@@ -18,8 +18,8 @@ use Rattle.pg_cli_command.specs.declared.fault.CliFault.TheVariants as cli
 use Rattle.pg_cli.specs.Serving.{RefusesWork}
 use Rattle.pg_cli_request.specs.declared.fault.Fault.{Fault}
 use Rattle.pg_cli_request.specs.declared.fault.Fault.TheVariants.{Open, Read, Controlled, NoProposition, Cli}
-use Rattle.pg_cli_request.specs.declared.pair.Pair.{Pair}
-use Rattle.pg_cli_request.specs.declared.pair.Pair.TheVariants.{Check, Replay, Means, Verify}
+use Rattle.pg_cli_request.specs.declared.pair.PairCommand.{PairCommand}
+use Rattle.pg_cli_request.specs.declared.pair.PairCommand.TheVariants.{Check, Replay, Means, Verify}
 use Rattle.pg_cli_request.specs.Inputs.{Input, Whole, Apart, pair_of, joined_length, names_in, kind_of, IsRead, IsNamed}
 
 -- programs work for the command, and it can't listen on any port for them
@@ -94,7 +94,7 @@ IsUnnamed outs command (Whole text) fault = HasNoNamed outs text fault
 -- ---- what has no answer
 
 -- why a command refuses two texts, each by itself
-abbrev pub RefusesPair : Pair → List ℕ → List ℕ → CliFault → Type 0
+abbrev pub RefusesPair : PairCommand → List ℕ → List ℕ → CliFault → Type 0
 RefusesPair Check first second fault = RefusesCheck (AreApart first second) fault
 RefusesPair Replay first second fault = RefusesReplay (AreApart first second) fault
 RefusesPair Means first second fault = RefusesMeans (AreApart first second) fault

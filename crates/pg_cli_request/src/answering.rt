@@ -14,7 +14,7 @@ ghost use Rattle.pg_cli_request.specs.Mirrors.Givens.{input_of, IsWithin};
 use crate::fault::Fault;
 use crate::input::{Given, read};
 use crate::named::{name_given, name_outputs};
-use crate::pair::Pair;
+use crate::pair::PairCommand;
 use crate::texts::Texts;
 use pg_cli::{
     CliFault, Command, Invocation, MOST_BYTES, Programs, check_texts, means_texts, replay_texts,
@@ -152,7 +152,7 @@ fn write_one<'a, R: Reach + AllocGlobal, W: Write>(
 fn write_pair<R: Reach + AllocGlobal, W: Write>(
     rt: &R,
     command: Command,
-    pair: Pair,
+    pair: PairCommand,
     first: Vec<u8>,
     second: Vec<u8>,
     figures: Option<&mut Figures>,
@@ -165,22 +165,22 @@ fn write_pair<R: Reach + AllocGlobal, W: Write>(
 {
     let alloc = rt.alloc();
     match pair {
-        Pair::Check => {
+        PairCommand::Check => {
             let answer = check_texts(alloc, first, second)?;
             write_whole(rt, command, &answer, figures, output)
         }
-        Pair::Means => {
+        PairCommand::Means => {
             let answer = means_texts(alloc, first, second)?;
             write_whole(rt, command, &answer, figures, output)
         }
-        Pair::Verify {
+        PairCommand::Verify {
             by_place,
             environment,
         } => {
             let answer = verify_texts(alloc, by_place, environment, first, second)?;
             write_whole(rt, command, &answer, figures, output)
         }
-        Pair::Replay => {
+        PairCommand::Replay => {
             replay_texts(alloc, first, second, output)?;
             output.flush().map_err(|_| CliFault::Write)
         }
@@ -280,7 +280,7 @@ fn tell_figures<E: Write>(errors: &mut E, is_json: bool, figures: Option<Figures
 }
 
 /// Reads the input of a command, writes the answer, and then the notes and the figures.
-fn answer<'a, R: Reach + AllocGlobal, T: Texts, W: Write, E: Write>(
+fn carry_out<'a, R: Reach + AllocGlobal, T: Texts, W: Write, E: Write>(
     rt: &R,
     command: Command,
     options: Options<'a>,
@@ -352,7 +352,7 @@ pub fn obey<'a, R: Reach + AllocGlobal, T: Texts, W: Write, E: Write>(
                 stats: request.stats || request.json,
                 json: request.json,
             };
-            answer(rt, *command, options, files, texts, kept, output, errors)
+            carry_out(rt, *command, options, files, texts, kept, output, errors)
         }
         Invocation::Work(port) => Ok(work(rt, rt.alloc(), *port)?),
     }

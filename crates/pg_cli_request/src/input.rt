@@ -6,7 +6,7 @@ ghost use Rattle.pg_cli_request.specs.Refusals.{AreUnread, HasNoInput};
 ghost use Rattle.pg_cli_request.specs.Mirrors.Givens.{input_of, IsWithin};
 
 use crate::fault::Fault;
-use crate::pair::{Pair, pair_of};
+use crate::pair::{PairCommand, pair_of};
 use crate::texts::Texts;
 use pg_cli::{CliFault, Command, MOST_BYTES};
 use pg_cli_words::STANDARD_INPUT;
@@ -20,7 +20,7 @@ pub(crate) enum Given {
     /// One text.
     Whole(Vec<u8>),
     /// Two texts, each by itself.
-    Apart(Pair, Vec<u8>, Vec<u8>),
+    Apart(PairCommand, Vec<u8>, Vec<u8>),
 }
 
 impl Given {

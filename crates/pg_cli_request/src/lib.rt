@@ -11,5 +11,5 @@ mod texts;
 
 pub use answering::obey;
 pub use fault::{Fault, end, status_of, tell, tell_outcome, write_fault};
-pub use pair::Pair;
+pub use pair::PairCommand;
 pub use texts::Texts;

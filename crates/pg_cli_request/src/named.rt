@@ -9,7 +9,7 @@ ghost use Rattle.pg_cli_request.specs.Mirrors.Givens.{input_of, IsWithin};
 
 use crate::fault::Fault;
 use crate::input::Given;
-use crate::pair::Pair;
+use crate::pair::PairCommand;
 use pg_cli::{CliFault, Command, MOST_BYTES, part_texts};
 use pg_hoa::{OutputsFault, with_outputs};
 use std::alloc::{AllocError, Global};
@@ -84,7 +84,7 @@ fn name_parted<'a>(
     let (first, second) = part_texts(alloc, text)?;
     let first = name_outputs(alloc, Some(outs), first)?;
     Ok(Given::Apart(
-        Pair::Verify {
+        PairCommand::Verify {
             by_place,
             environment,
         },

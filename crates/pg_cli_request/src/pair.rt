@@ -7,7 +7,7 @@ use pg_cli::Command;
 
 /// A command that is given two texts: a game or an automaton, and what belongs to it.
 #[derive(Clone, Copy, Debug, PartialEq, Eq)]
-pub enum Pair {
+pub enum PairCommand {
     /// A game and a solution of it.
     Check,
     /// A game and a script.
@@ -20,18 +20,18 @@ pub enum Pair {
 }
 
 /// Returns the command as one that is given two texts, or None if it takes one.
-pub(crate) fn pair_of(command: Command) -> Option<Pair>
+pub(crate) fn pair_of(command: Command) -> Option<PairCommand>
     ensures { result ≡ pair_of command }
 {
     match command {
-        Command::Check => Some(Pair::Check),
-        Command::Replay => Some(Pair::Replay),
-        Command::Means => Some(Pair::Means),
+        Command::Check => Some(PairCommand::Check),
+        Command::Replay => Some(PairCommand::Replay),
+        Command::Means => Some(PairCommand::Means),
         Command::Verify {
             by_place,
             environment,
             ..
-        } => Some(Pair::Verify {
+        } => Some(PairCommand::Verify {
             by_place,
             environment,
         }),

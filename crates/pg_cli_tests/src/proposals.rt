@@ -2,7 +2,9 @@
 
 use pg_aiger::Gate;
 use pg_arena::Game;
-use pg_cli_command::{CliFault, Command, MOST_BYTES, Proposal, Solver, Untranslated, answer};
+use pg_cli_command::{
+    CliFault, Command, MOST_BYTES, ProposedCircuit, Solver, Untranslated, write_answer_by,
+};
 use pg_cli_in_one_piece::InOnePiece;
 use pg_hoa::Automaton;
 use pg_ltl::Formula;
@@ -22,8 +24,8 @@ fn proposed(
     next: Option<u32>,
     output: u32,
     gate: Option<Gate>,
-) -> Result<Proposal, AllocError> {
-    let mut proposal = Proposal {
+) -> Result<ProposedCircuit, AllocError> {
+    let mut proposal = ProposedCircuit {
         nexts: Vec::new(alloc),
         outputs: vec![in alloc; output]?,
         gates: Vec::new(alloc),
@@ -59,7 +61,11 @@ impl Solver for Proposing {
         InOnePiece.solve(alloc, game)
     }
 
-    fn propose(&self, alloc: Global, _automaton: &Automaton) -> Result<Vec<Proposal>, AllocError> {
+    fn propose(
+        &self,
+        alloc: Global,
+        _automaton: &Automaton,
+    ) -> Result<Vec<ProposedCircuit>, AllocError> {
         let mut proposals = Vec::new(alloc);
         // no grant ever, and each request granted in the same step
         proposals.push(proposed(alloc, None, 0, None)?)?;
@@ -97,7 +103,7 @@ impl Solver for Proposing {
         &self,
         alloc: Global,
         _automaton: &Automaton,
-    ) -> Result<Vec<Proposal>, AllocError> {
+    ) -> Result<Vec<ProposedCircuit>, AllocError> {
         let mut proposals = Vec::new(alloc);
         // always a request, and one in each step without a grant, which isn't known yet
         proposals.push(proposed(alloc, None, 1, None)?)?;
@@ -161,7 +167,7 @@ fn answered(
     let text = text.to_vec(alloc).ok()?;
     let mut solver = Proposing { is_right_too };
     let mut output = Vec::new(alloc);
-    let done = answer(alloc, command, text, &mut solver, &mut output);
+    let done = write_answer_by(alloc, command, text, &mut solver, &mut output);
     Some((done, output))
 }
 

@@ -63,7 +63,7 @@ pub use Rattle.pg_hoa_syntax.specs.declared.body.ReadState.{ReadState}
 pub use Rattle.pg_hoa_syntax.specs.declared.fault.PartFault.{PartFault}
 pub use Rattle.pg_hoa_syntax.specs.declared.fault.PartFault.TheVariants.{BadName, LeftOut, NotParity, OutOfRange, Syntax, TooLarge}
 pub use Rattle.pg_hoa_syntax.specs.declared.fault.PartFault.TheVariants.{UnknownHeader}
-pub use Rattle.pg_hoa_syntax.specs.declared.fault.Refusal.{Refusal}
+pub use Rattle.pg_hoa_syntax.specs.declared.fault.PartRefusal.{PartRefusal}
 pub use Rattle.pg_hoa_syntax.specs.declared.formula.Op.{Op}
 pub use Rattle.pg_hoa_syntax.specs.declared.formula.Op.TheVariants.{No}
 pub use Rattle.pg_hoa.specs.AutomatonText.{Agree, IsDeterministicAt, IsRefused, IsUndetermined, SpellsNone, Spelt, edge_steps, head}

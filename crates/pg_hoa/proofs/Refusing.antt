@@ -1,8 +1,8 @@
 -- Bytes that are refused spell no automaton.
 use Rattle.pg_hoa.proofs.Common.{ℕ, List, ◌^◌, length, Automaton, PartFault, Syntax, LeftOut, UnknownHeader, OutOfRange, NotParity}
-use Rattle.pg_hoa.proofs.Common.{TooLarge, BadName, Refusal, SaysNone, KeptLine, Declares, SaysNothing, Conflict, Memory, NotDeterministic}
+use Rattle.pg_hoa.proofs.Common.{TooLarge, BadName, PartRefusal, SaysNone, KeptLine, Declares, SaysNothing, Conflict, Memory, NotDeterministic}
 use Rattle.pg_hoa.proofs.Common.{SpellsNone, IsRefused, in_text, refusal_in_text, conflict_fault, IsConflictOf}
-use Rattle.pg_hoa_syntax.specs.declared.fault.Refusal.TheVariants as refusals
+use Rattle.pg_hoa_syntax.specs.declared.fault.PartRefusal.TheVariants as refusals
 use Rattle.pg_hoa.proofs.Assembling.{first_undetermined}
 use Rattle.pg_hoa.proofs.SpeltOnce.{says_spell_none, undetermined_spell_none}
 
@@ -19,7 +19,7 @@ part_refused bytes len NotParity none = none_at_all bytes none
 part_refused bytes len TooLarge none = none_at_all bytes none
 part_refused bytes len (BadName proposition) none = none_at_all bytes none
 
-pub refusal_refused : (bytes : List ℕ) (len : ℕ) (refusal : Refusal) → SaysNothing bytes refusal
+pub refusal_refused : (bytes : List ℕ) (len : ℕ) (refusal : PartRefusal) → SaysNothing bytes refusal
     → IsRefused bytes (refusal_in_text len refusal)
 refusal_refused bytes len refusals.Memory none = tt
 refusal_refused bytes len (refusals.Wrong fault) none = part_refused bytes len fault none

@@ -3,7 +3,7 @@
 ghost use Rattle.std.specs.Prelude.{◌≡◌};
 ghost use Rattle.pg_hoa.specs.Mirrors.Faults.{in_text, refusal_in_text, conflict_fault};
 
-use pg_hoa_syntax::{LeftOutName, PartFault, Refusal};
+use pg_hoa_syntax::{LeftOutName, PartFault, PartRefusal};
 use std::alloc::AllocError;
 use std::error::Error;
 use std::fmt;
@@ -63,12 +63,12 @@ impl fmt::Display for HoaFault {
 impl Error for HoaFault {}
 
 /// Returns the fault of a text of `len` bytes, for the reason given by the reader of its tokens.
-pub fn in_text(refusal: Refusal, len: usize) -> HoaFault
+pub fn in_text(refusal: PartRefusal, len: usize) -> HoaFault
     ensures { result ≡ refusal_in_text len refusal }
 {
     match refusal {
-        Refusal::Memory => HoaFault::OutOfMemory,
-        Refusal::Wrong(fault) => wrong_in_text(fault, len),
+        PartRefusal::Memory => HoaFault::OutOfMemory,
+        PartRefusal::Wrong(fault) => wrong_in_text(fault, len),
     }
 }
 

@@ -20,7 +20,7 @@ use crate::fault::Conflict;
 use crate::letters::words_of;
 use crate::terms::{Instruction, instructions_of};
 use pg_hoa_automaton::{Shape, Stored, Table, numbered};
-use pg_hoa_syntax::{Edge, Op, ReadState};
+use pg_hoa_syntax::{Op, ReadEdge, ReadState};
 use std::alloc::{AllocError, Global};
 use std::collections::BTreeMap;
 
@@ -471,7 +471,7 @@ fn add_edge(
 
 /// Returns the state that the edge leads to, and the set that counts on the edge, if without the edge's sets it is
 /// `counts`.
-fn key_of(shape: Shape, counts: Option<u32>, edge: &Edge) -> (u32, Option<u32>)
+fn key_of(shape: Shape, counts: Option<u32>, edge: &ReadEdge) -> (u32, Option<u32>)
     ensures { result ≡ (edge.now.target, with_sets shape counts edge.now.sets.items) }
 {
     let counts = counts_with(shape, counts, edge.sets.as_slice());
@@ -484,8 +484,8 @@ fn regrouped<'a>(
     alloc: Global,
     shape: Shape,
     counts: Option<u32>,
-    edges: &'a [Edge],
-) -> Result<Vec<&'a Edge>, AllocError>
+    edges: &'a [ReadEdge],
+) -> Result<Vec<&'a ReadEdge>, AllocError>
     ensures { IfOk result (λ order. (own : List ℕ) → counts ≡ deciding shape (rising own)
         → IsRegrouped shape own (map edge_in edges.now) (map (λ e. edge_in e.now) order.items)) }
 {

@@ -2,7 +2,7 @@
 use Rattle.pg_hoa_syntax.proofs.Common.{◌≡◌, ℕ, suc, zero, ◌≤◌, ◌<◌, max, Bool, true, false, List, [], ◌∷◌, ◌++◌, length, get_or, Option, Some}
 use Rattle.pg_hoa_syntax.proofs.Common.{None, refl, sym, ap, subst, ◌∙◌, arith, append_assoc, inl, inr, ◌||◌, set, replicate, ltb-true}
 use Rattle.pg_hoa_syntax.proofs.Common.{eqb_tells, nat_tests, filter-append, fold-append, map-append, append-nil, length-set, length-replicate}
-use Rattle.pg_hoa_syntax.proofs.Common.{get_or-replicate, get_or-set_same, get_or-set_other, Refusal, Memory, Wrong, Lexeme, number, stray}
+use Rattle.pg_hoa_syntax.proofs.Common.{get_or-replicate, get_or-set_same, get_or-set_other, PartRefusal, Memory, Wrong, Lexeme, number, stray}
 use Rattle.pg_hoa_syntax.proofs.Common.{first, ◌>>=◌, Fails, KeptEdge, KeptLine, may_hold, kept_edges, greatest_of, due, state_of, new_state}
 use Rattle.pg_hoa_syntax.proofs.Common.{set_in, sets_at, rising_sets_at, sets_if, edge_at, begins_edge, edges_within, edges_at, kept_edges_at}
 use Rattle.pg_hoa_syntax.proofs.Common.{behind_name, line_at, begins_line, is_seen, lines_within, body_at, IsStrictlyIncreasing, put, rising}
@@ -30,12 +30,12 @@ no_sets sets [] e = refl
 no_sets sets (stray ∷ rest) e = refl
 no_sets sets (t ∷ rest) e = absurd cc
 
-pub sets_unread : (refusal : Refusal) (sets : ℕ) (done : List ℕ) (tokens : List Lexeme) → Fails refusal (due tokens)
+pub sets_unread : (refusal : PartRefusal) (sets : ℕ) (done : List ℕ) (tokens : List Lexeme) → Fails refusal (due tokens)
     → Fails refusal (ahead done (sets_at sets tokens))
 sets_unread Memory sets done tokens h = tt
 sets_unread (Wrong fault) sets done tokens h = rw (no_sets sets tokens h) refl
 
-pub sets_fail : (refusal : Refusal) (sets : ℕ) (done : List ℕ) (tokens rest : List Lexeme) (t : Lexeme) → due tokens ≡ Some (t, rest)
+pub sets_fail : (refusal : PartRefusal) (sets : ℕ) (done : List ℕ) (tokens rest : List Lexeme) (t : Lexeme) → due tokens ≡ Some (t, rest)
     → Fails refusal (set_in sets t) → Fails refusal (ahead done (sets_at sets tokens))
 unfolding sets_at
 sets_fail Memory sets done tokens rest t e h = tt
@@ -71,7 +71,7 @@ set_kept sets kept more tokens rest all t n s e h is = record {
   left = sym (sets_more sets s.done tokens rest t n e h) ∙ s.left;
 }
 
-pub rising_fail : (refusal : Refusal) (sets : ℕ) (tokens : List Lexeme) → Fails refusal (sets_at sets tokens)
+pub rising_fail : (refusal : PartRefusal) (sets : ℕ) (tokens : List Lexeme) → Fails refusal (sets_at sets tokens)
     → Fails refusal (rising_sets_at sets tokens)
 unfolding rising_sets_at
 rising_fail Memory sets tokens h = tt
@@ -102,14 +102,14 @@ unfolding edges_at
 edges_start states propositions sets tokens =
     grind (arith, nat_tests, ahead_none (edges_within (suc (length tokens)) states propositions sets tokens))
 
-pub edges_unread : (refusal : Refusal) (states propositions sets : ℕ) (done : List KeptEdge) (tokens : List Lexeme)
+pub edges_unread : (refusal : PartRefusal) (states propositions sets : ℕ) (done : List KeptEdge) (tokens : List Lexeme)
     (all : Option (List KeptEdge × List Lexeme))
     → EdgesLeft states propositions sets done tokens all → Fails refusal (due tokens) → Fails refusal all
 unfolding edges_within
 edges_unread Memory states propositions sets done tokens all left h = tt
 edges_unread (Wrong fault) states propositions sets done tokens all left h = sym left.same ∙ rw h refl
 
-pub edges_fail : (refusal : Refusal) (states propositions sets : ℕ) (done : List KeptEdge) (tokens rest : List Lexeme) (t : Lexeme)
+pub edges_fail : (refusal : PartRefusal) (states propositions sets : ℕ) (done : List KeptEdge) (tokens rest : List Lexeme) (t : Lexeme)
     (all : Option (List KeptEdge × List Lexeme))
     → EdgesLeft states propositions sets done tokens all → due tokens ≡ Some (t, rest) → Fails refusal (begins_edge t) → Fails refusal all
 unfolding edges_within
@@ -123,7 +123,7 @@ pub edges_end : (states propositions sets : ℕ) (done : List KeptEdge) (tokens 
 unfolding edges_within
 edges_end states propositions sets done tokens rest t all left e h = sym left.same ∙ rw (e, h, append-nil done) refl
 
-pub edge_fails : (refusal : Refusal) (states propositions sets : ℕ) (done : List KeptEdge) (tokens rest : List Lexeme) (t : Lexeme)
+pub edge_fails : (refusal : PartRefusal) (states propositions sets : ℕ) (done : List KeptEdge) (tokens rest : List Lexeme) (t : Lexeme)
     (all : Option (List KeptEdge × List Lexeme))
     → EdgesLeft states propositions sets done tokens all → due tokens ≡ Some (t, rest) → begins_edge t ≡ Some true
     → Fails refusal (edge_at states propositions sets rest) → Fails refusal all
@@ -184,7 +184,7 @@ kept_more state states propositions sets kept more greatest tokens rest t x all 
     one_more : (done : List KeptEdge) → greatest_of state (done ++ (x.0 ∷ [])) ≡ max (greatest_of state done) x.0.target
     one_more done = simp (map-append, fold-append)
 
-pub kept_fail : (refusal : Refusal) (state states propositions sets : ℕ) (tokens : List Lexeme)
+pub kept_fail : (refusal : PartRefusal) (state states propositions sets : ℕ) (tokens : List Lexeme)
     → Fails refusal (edges_at states propositions sets tokens) → Fails refusal (kept_edges_at state states propositions sets tokens)
 unfolding kept_edges_at
 kept_fail Memory state states propositions sets tokens h = tt
@@ -261,14 +261,14 @@ lines_start states propositions sets tokens = record {
   same = ahead_none (lines_within (suc (length tokens)) states propositions sets [] tokens);
 }
 
-pub lines_unread : (refusal : Refusal) (states propositions sets : ℕ) (seen : List Bool) (done : List KeptLine) (tokens : List Lexeme)
+pub lines_unread : (refusal : PartRefusal) (states propositions sets : ℕ) (seen : List Bool) (done : List KeptLine) (tokens : List Lexeme)
     (all : Option (List KeptLine × List Lexeme))
     → LinesLeft states propositions sets seen done tokens all → Fails refusal (due tokens) → Fails refusal all
 unfolding lines_within
 lines_unread Memory states propositions sets seen done tokens all left h = tt
 lines_unread (Wrong fault) states propositions sets seen done tokens all left h = sym left.same ∙ rw h refl
 
-pub lines_fail : (refusal : Refusal) (states propositions sets : ℕ) (seen : List Bool) (done : List KeptLine) (tokens rest : List Lexeme)
+pub lines_fail : (refusal : PartRefusal) (states propositions sets : ℕ) (seen : List Bool) (done : List KeptLine) (tokens rest : List Lexeme)
     (t : Lexeme) (all : Option (List KeptLine × List Lexeme))
     → LinesLeft states propositions sets seen done tokens all → due tokens ≡ Some (t, rest) → Fails refusal (begins_line t)
     → Fails refusal all
@@ -283,7 +283,7 @@ pub lines_end : (states propositions sets : ℕ) (seen : List Bool) (done : List
 unfolding lines_within
 lines_end states propositions sets seen done tokens rest t all left e h = sym left.same ∙ rw (e, h, append-nil done) refl
 
-pub line_fails : (refusal : Refusal) (states propositions sets : ℕ) (seen : List Bool) (done : List KeptLine) (tokens rest : List Lexeme)
+pub line_fails : (refusal : PartRefusal) (states propositions sets : ℕ) (seen : List Bool) (done : List KeptLine) (tokens rest : List Lexeme)
     (t : Lexeme) (all : Option (List KeptLine × List Lexeme))
     → LinesLeft states propositions sets seen done tokens all → due tokens ≡ Some (t, rest) → begins_line t ≡ Some true
     → Fails refusal (line_at states propositions sets (λ n. get_or seen n false) rest) → Fails refusal all

@@ -61,7 +61,7 @@ pub use Rattle.pg_hoa_syntax.specs.Mirrors.FormulaRun.{ops_in, postfix, split_la
 unfoldable pub use Rattle.pg_hoa_syntax.specs.Mirrors.FormulaRun.{closed_at, closing_turn, completed_at, goes_on_at, limit_at, naming_turn}
 unfoldable pub use Rattle.pg_hoa_syntax.specs.Mirrors.FormulaRun.{negated_at, opened_at, opening_turn, operand_at, operand_turn, operator_turn}
 unfoldable pub use Rattle.pg_hoa_syntax.specs.Mirrors.FormulaRun.{ops_at, ops_from, over_at, product_at, sum_at, taken_at, turn_at, word_at}
-pub use Rattle.pg_hoa_syntax.specs.Mirrors.FormulaScan.{Frame, State, closing, closing_step, completes, deeper, finish, fresh, limited}
+pub use Rattle.pg_hoa_syntax.specs.Mirrors.FormulaScan.{Bracket, State, closing, closing_step, completes, deeper, finish, fresh, limited}
 pub use Rattle.pg_hoa_syntax.specs.Mirrors.FormulaScan.{multiplied, naming, naming_step, negated, opening, opening_step, operand, operand_step}
 pub use Rattle.pg_hoa_syntax.specs.Mirrors.FormulaScan.{operator, operator_step, step, stops, summed, word_step}
 unfoldable pub use Rattle.pg_hoa_syntax.specs.Mirrors.FormulaScan.{formula_at, formula_from}
@@ -89,13 +89,13 @@ pub use Rattle.pg_hoa_syntax.specs.Syntax.{header_lexemes, line_numbers, name_le
 pub use Rattle.pg_hoa_syntax.specs.Syntax.{state_counts, state_lexemes, text_lexemes, value_lexeme, word}
 pub use Rattle.pg_hoa_syntax.specs.declared.body.Ranges.{Ranges}
 pub use Rattle.pg_hoa_syntax.specs.declared.body.ReadState.{ReadState}
-pub use Rattle.pg_hoa_syntax.specs.declared.fault.Refusal.{Refusal}
-pub use Rattle.pg_hoa_syntax.specs.declared.fault.Refusal.TheVariants.{Memory, Wrong}
-pub use Rattle.pg_hoa_syntax.specs.declared.formula.Kind.{Kind}
-pub use Rattle.pg_hoa_syntax.specs.declared.formula.Kind.TheVariants.{Condition, Label}
+pub use Rattle.pg_hoa_syntax.specs.declared.fault.PartRefusal.{PartRefusal}
+pub use Rattle.pg_hoa_syntax.specs.declared.fault.PartRefusal.TheVariants.{Memory, Wrong}
+pub use Rattle.pg_hoa_syntax.specs.declared.formula.FormulaKind.{FormulaKind}
+pub use Rattle.pg_hoa_syntax.specs.declared.formula.FormulaKind.TheVariants.{Condition, Label}
 pub use Rattle.pg_hoa_syntax.specs.declared.formula.Mode.{Mode}
 pub use Rattle.pg_hoa_syntax.specs.declared.formula.Mode.TheVariants.{Naming, Opening, Operand, Operator}
 pub use Rattle.pg_hoa_syntax.specs.declared.formula.Op.{Op}
 pub use Rattle.pg_hoa_syntax.specs.declared.formula.Op.TheVariants.{Both, Either, Fin, Inf, No, Not, Proposition, Yes}
 pub use Rattle.pg_hoa_syntax.specs.declared.header.Head.{Head}
-pub use Rattle.pg_hoa_syntax.specs.declared.token.Token.{Token}
+pub use Rattle.pg_hoa_syntax.specs.declared.token.HoaToken.{HoaToken}

@@ -1,5 +1,5 @@
 -- What the reader of labels and conditions gives is written there, and what is written there it gives.
-use Rattle.pg_hoa_syntax.proofs.Common.{◌≡◌, ℕ, List, [], ◌∷◌, ◌++◌, map, Some, sym, ap, ◌∙◌, AllByRecursion, Kind, Op, Lexeme, number}
+use Rattle.pg_hoa_syntax.proofs.Common.{◌≡◌, ℕ, List, [], ◌∷◌, ◌++◌, map, Some, sym, ap, ◌∙◌, AllByRecursion, FormulaKind, Op, Lexeme, number}
 use Rattle.pg_hoa_syntax.proofs.Common.{right_paren, ampersand, bar, IsToken, Formula, yes, no, proposition, inf, fin, not, both, either}
 use Rattle.pg_hoa_syntax.proofs.Common.{bracket, formula_lexemes, IsWritten, postfix, ops_at, formula_at, some, some_is}
 use Rattle.pg_hoa_syntax.proofs.Lists.{all_of_both}
@@ -9,13 +9,13 @@ use Rattle.pg_hoa_syntax.proofs.FormulasAgain.{Ends, formula_again}
 use Rattle.pg_hoa_syntax.proofs.FormulaOps.{as_ops, formula_keeps}
 
 -- a formula that is written at the front of the tokens, its operations, and the tokens behind it
-pub record ReadsFormula (k : Kind) (tokens : List Lexeme) (ops : List Op) (rest : List Lexeme) : Type 0 where
+pub record ReadsFormula (k : FormulaKind) (tokens : List Lexeme) (ops : List Op) (rest : List Lexeme) : Type 0 where
   pub formula : Formula
   pub written : IsWritten k formula
   pub is : tokens ≡ formula_lexemes formula ++ rest
   pub computed : ops ≡ postfix formula
 
-pub ops_take : (k : Kind) (tokens : List Lexeme) (x : List Op × List Lexeme) → ops_at k tokens ≡ Some x → ReadsFormula k tokens x.0 x.1
+pub ops_take : (k : FormulaKind) (tokens : List Lexeme) (x : List Op × List Lexeme) → ops_at k tokens ≡ Some x → ReadsFormula k tokens x.0 x.1
 ops_take k tokens x e =
     let found =
     bind_some (formula_at k tokens) (λ (y : Formula × List Lexeme). some (postfix y.0, y.1)) x (sym (formula_keeps k tokens) ∙ e) in
@@ -28,7 +28,7 @@ ops_take k tokens x e =
       computed = sym (ap (λ (y : List Op × List Lexeme). y.0) same);
     }
 
-pub ops_again : (k : Kind) (f : Formula) (rest : List Lexeme) → IsWritten k f → Ends rest
+pub ops_again : (k : FormulaKind) (f : Formula) (rest : List Lexeme) → IsWritten k f → Ends rest
     → ops_at k (formula_lexemes f ++ rest) ≡ Some (postfix f, rest)
 ops_again k f rest written ends = formula_keeps k (formula_lexemes f ++ rest) ∙ ap as_ops (formula_again k f rest written ends)
 

@@ -1,17 +1,17 @@
 -- The operations that are kept are those of the formula that is read.
 use Rattle.pg_hoa_syntax.proofs.Common.{◌≡◌, ℕ, suc, zero, ◌+◌, Bool, true, false, cond, ltb, List, [], ◌∷◌, ◌++◌, Option, Some, None, refl}
-use Rattle.pg_hoa_syntax.proofs.Common.{sym, ◌∙◌, arith, append_assoc, nat_tests, codes, nat_lt, bytes_eq, append-nil, lt-ltb, le-ltb, Kind}
+use Rattle.pg_hoa_syntax.proofs.Common.{sym, ◌∙◌, arith, append_assoc, nat_tests, codes, nat_lt, bytes_eq, append-nil, lt-ltb, le-ltb, FormulaKind}
 use Rattle.pg_hoa_syntax.proofs.Common.{Label, Condition, Op, Mode, Lexeme, number, identifier, left_paren, right_paren, bang, ampersand, bar}
-use Rattle.pg_hoa_syntax.proofs.Common.{Formula, yes, no, proposition, not, bracket, ◌>>=◌, Frame, fresh, State, operand, opening, naming}
+use Rattle.pg_hoa_syntax.proofs.Common.{Formula, yes, no, proposition, not, bracket, ◌>>=◌, Bracket, fresh, State, operand, opening, naming}
 use Rattle.pg_hoa_syntax.proofs.Common.{closing, operator, summed, deeper, word_step, operand_step, operator_step, multiplied, negated, limited}
 use Rattle.pg_hoa_syntax.proofs.Common.{completes, step, finish, stops, formula_from, formula_at, KeptReading, with_op, not_ops, both_ops}
 use Rattle.pg_hoa_syntax.proofs.Common.{either_ops, limit_op, completed_at, operand_at, negated_at, opened_at, product_at, sum_at, closed_at}
 use Rattle.pg_hoa_syntax.proofs.Common.{limit_at, word_at, operand_turn, operator_turn, opening_turn, naming_turn, closing_turn, turn_at}
 use Rattle.pg_hoa_syntax.proofs.Common.{goes_on, goes_on_at, ops_in, over_at, ops_from, ops_at, postfix}
 use Rattle.pg_hoa_syntax.specs.declared.formula.Op.TheVariants as ops
-use Rattle.pg_hoa_syntax.specs.declared.formula.Frame as rust
+use Rattle.pg_hoa_syntax.specs.declared.formula.Bracket as rust
 use Rattle.pg_hoa_syntax.specs.declared.formula.Mode.TheVariants as modes
-use Rattle.pg_hoa_syntax.proofs.Frames.{split_pushed}
+use Rattle.pg_hoa_syntax.proofs.OpenBrackets.{split_pushed}
 
 abbrev is_some : Option Formula → Bool
 is_some None = false
@@ -21,28 +21,28 @@ abbrev ops_if : Option Formula → List Op
 ops_if None = []
 ops_if (Some f) = postfix f
 
-abbrev kept_frame : ℕ → Frame → rust.Frame
-kept_frame room f = record { sum = is_some f.sum; product = is_some f.product; nots = f.nots; room = room + f.nots }
+abbrev kept_bracket : ℕ → Bracket → rust.Bracket
+kept_bracket room f = record { sum = is_some f.sum; product = is_some f.product; nots = f.nots; room = room + f.nots }
 
--- inside these frames so many brackets and `!` more may be opened
-abbrev kept_outer : ℕ → List Frame → List rust.Frame
+-- inside these brackets so many brackets and `!` more may be opened
+abbrev kept_outer : ℕ → List Bracket → List rust.Bracket
 kept_outer room [] = []
-kept_outer room (f ∷ outer) = kept_outer (suc room + f.nots) outer ++ (kept_frame (suc room) f ∷ [])
+kept_outer room (f ∷ outer) = kept_outer (suc room + f.nots) outer ++ (kept_bracket (suc room) f ∷ [])
 
-abbrev frame_ops : Frame → List Op
-frame_ops f = ops_if f.sum ++ ops_if f.product
+abbrev bracket_ops : Bracket → List Op
+bracket_ops f = ops_if f.sum ++ ops_if f.product
 
-abbrev outer_ops : List Frame → List Op
+abbrev outer_ops : List Bracket → List Op
 outer_ops [] = []
-outer_ops (f ∷ outer) = outer_ops outer ++ frame_ops f
+outer_ops (f ∷ outer) = outer_ops outer ++ bracket_ops f
 
 -- what is kept before an operand is complete
-abbrev before : Mode → ℕ → Frame → List Frame → KeptReading
+abbrev before : Mode → ℕ → Bracket → List Bracket → KeptReading
 before mode room top outer = record {
   mode = mode;
-  top = kept_frame room top;
+  top = kept_bracket room top;
   outer = kept_outer (room + top.nots) outer;
-  ops = outer_ops outer ++ frame_ops top;
+  ops = outer_ops outer ++ bracket_ops top;
 }
 
 abbrev pub keep : State → KeptReading
@@ -71,8 +71,8 @@ summed_ops None f = sym (append-nil (postfix f))
 summed_ops (Some g) f = sym (append_assoc (postfix g) (postfix f) (ops.Either ∷ []))
 
 -- an operand whose operations were kept is complete
-pub completed_keeps : (room : ℕ) (top : Frame) (outer : List Frame) (f : Formula) (r : KeptReading) → r.top ≡ kept_frame room top
-    → r.outer ≡ kept_outer (room + top.nots) outer → r.ops ≡ (outer_ops outer ++ frame_ops top) ++ postfix f
+pub completed_keeps : (room : ℕ) (top : Bracket) (outer : List Bracket) (f : Formula) (r : KeptReading) → r.top ≡ kept_bracket room top
+    → r.outer ≡ kept_outer (room + top.nots) outer → r.ops ≡ (outer_ops outer ++ bracket_ops top) ++ postfix f
     → completed_at r ≡ Some (keep (completes room top outer f))
 unfolding completed_at
 completed_keeps room top outer f r et eo ep =
@@ -80,30 +80,30 @@ completed_keeps room top outer f r et eo ep =
 
 -- ---- each step of the formula is a turn of what is kept
 
-operand_keeps : (room : ℕ) (top : Frame) (outer : List Frame) (f : Formula) (op : Op) (mode : Mode) → postfix f ≡ op ∷ []
+operand_keeps : (room : ℕ) (top : Bracket) (outer : List Bracket) (f : Formula) (op : Op) (mode : Mode) → postfix f ≡ op ∷ []
     → operand_at (before mode room top outer) op ≡ Some (keep (completes room top outer f))
 unfolding operand_at
 operand_keeps room top outer f op mode e =
     completed_keeps room top outer f (with_op (before mode room top outer) op) refl refl (rw e refl)
 
-deeper_none : (top : Frame) → ltb top.nots (0 + top.nots) ≡ false
+deeper_none : (top : Bracket) → ltb top.nots (0 + top.nots) ≡ false
 deeper_none top = le-ltb top.nots (0 + top.nots) (omega arith)
 
-deeper_some : (room : ℕ) (top : Frame) → ltb top.nots (suc room + top.nots) ≡ true
+deeper_some : (room : ℕ) (top : Bracket) → ltb top.nots (suc room + top.nots) ≡ true
 deeper_some room top = lt-ltb top.nots (suc room + top.nots) (omega arith)
 
 -- what was kept, of a state that may be none
 abbrev kept_if : Option State → Option KeptReading
 kept_if found = found >>= λ s. Some (keep s)
 
-bang_keeps : (room : ℕ) (top : Frame) (outer : List Frame)
+bang_keeps : (room : ℕ) (top : Bracket) (outer : List Bracket)
     → negated_at (keep (operand room top outer)) ≡ kept_if
     (deeper room (λ r. operand r (record { sum = top.sum; product = top.product; nots = suc top.nots }) outer))
 unfolding negated_at
 bang_keeps zero top outer = rw (deeper_none top) refl
 bang_keeps (suc room) top outer = grind (arith, nat_tests, deeper_some room top)
 
-paren_keeps : (room : ℕ) (top : Frame) (outer : List Frame)
+paren_keeps : (room : ℕ) (top : Bracket) (outer : List Bracket)
     → opened_at (keep (operand room top outer)) ≡ kept_if (deeper room (λ r. operand r fresh (top ∷ outer)))
 unfolding opened_at
 paren_keeps zero top outer = rw (deeper_none top) refl
@@ -114,7 +114,7 @@ tested_keeps : (b : Bool) (x y : Option KeptReading) (u v : Option State) → x 
 tested_keeps true x y u v p q = p
 tested_keeps false x y u v p q = q
 
-word_keeps : (k : Kind) (w : List ℕ) (room : ℕ) (top : Frame) (outer : List Frame)
+word_keeps : (k : FormulaKind) (w : List ℕ) (room : ℕ) (top : Bracket) (outer : List Bracket)
     → word_at k w (keep (operand room top outer)) ≡ kept_if (word_step k w room top outer)
 unfolding word_at limit_at
 word_keeps (Label n) w room top outer =
@@ -133,7 +133,7 @@ word_keeps (Condition n) w room top outer =
           (tested_keeps (bytes_eq w (codes "Fin")) _ _ (Some (opening false room top outer)) None refl refl))),
     )
 
-operand_turns : (k : Kind) (room : ℕ) (top : Frame) (outer : List Frame) (t : Lexeme)
+operand_turns : (k : FormulaKind) (room : ℕ) (top : Bracket) (outer : List Bracket) (t : Lexeme)
     → operand_turn k (keep (operand room top outer)) t ≡ kept_if (operand_step k room top outer t)
 unfolding operand_turn
 operand_turns (Label n) room top outer bang = bang_keeps room top outer
@@ -147,19 +147,19 @@ limit_keeps : (b : Bool) (s : ℕ) → postfix (limited b s) ≡ limit_op b s �
 limit_keeps true s = refl
 limit_keeps false s = refl
 
-operator_turns : (room : ℕ) (sum : Option Formula) (product : Formula) (outer : List Frame) (t : Lexeme)
+operator_turns : (room : ℕ) (sum : Option Formula) (product : Formula) (outer : List Bracket) (t : Lexeme)
     → operator_turn (keep (operator room sum product outer)) t ≡ kept_if (operator_step room sum product outer t)
 unfolding operator_turn product_at sum_at closed_at
 operator_turns room sum product outer ampersand = let b : room + 0 ≡ room = omega arith in rw b refl
 operator_turns room sum product outer bar =
     let b : room + 0 ≡ room = omega arith in rw (b, summed_ops sum product) (simp (append-nil, append_assoc))
 operator_turns room sum product (top ∷ outer) right_paren =
-    rw (split_pushed (kept_outer (suc room + top.nots) outer) (kept_frame (suc room) top))
+    rw (split_pushed (kept_outer (suc room + top.nots) outer) (kept_bracket (suc room) top))
     (completed_keeps (suc room) top outer (bracket (summed sum product)) _ refl refl (rw (summed_ops sum product) (simp append_assoc)))
 operator_turns room sum product [] right_paren = refl
 operator_turns room sum product outer t = refl
 
-turns_keep : (k : Kind) (s : State) (t : Lexeme) → turn_at k (keep s) t ≡ kept_if (step k s t)
+turns_keep : (k : FormulaKind) (s : State) (t : Lexeme) → turn_at k (keep s) t ≡ kept_if (step k s t)
 unfolding turn_at opening_turn naming_turn closing_turn
 turns_keep k (operand room top outer) t = operand_turns k room top outer t
 turns_keep k (opening b room top outer) left_paren = refl
@@ -175,13 +175,13 @@ turns_keep k (operator room sum product outer) t = operator_turns room sum produ
 
 -- ---- the whole
 
-snoc_goes : (fs : List rust.Frame) (f : rust.Frame) (t : Lexeme) → goes_on (fs ++ (f ∷ [])) t ≡ true
+snoc_goes : (fs : List rust.Bracket) (f : rust.Bracket) (t : Lexeme) → goes_on (fs ++ (f ∷ [])) t ≡ true
 snoc_goes [] f ampersand = refl
 snoc_goes [] f _ = refl
 snoc_goes (g ∷ fs) f ampersand = refl
 snoc_goes (g ∷ fs) f _ = refl
 
-inside_goes : (room : ℕ) (sum : Option Formula) (product : Formula) (top : Frame) (outer : List Frame) (t : Lexeme)
+inside_goes : (room : ℕ) (sum : Option Formula) (product : Formula) (top : Bracket) (outer : List Bracket) (t : Lexeme)
     → stops (operator room sum product (top ∷ outer)) t ≡ false
 inside_goes room sum product top outer ampersand = refl
 inside_goes room sum product top outer _ = refl
@@ -199,9 +199,9 @@ goes_keep (closing b s room top outer) t = refl
 goes_keep (operator room sum product []) ampersand = refl
 goes_keep (operator room sum product []) _ = refl
 goes_keep (operator room sum product (top ∷ outer)) t = rw (inside_goes room sum product top outer t)
-    (snoc_goes (kept_outer (suc room + top.nots) outer) (kept_frame (suc room) top) t)
+    (snoc_goes (kept_outer (suc room + top.nots) outer) (kept_bracket (suc room) top) t)
 
-snoc_over : (fs : List rust.Frame) (f : rust.Frame) (ops : List Op) → ops_in modes.Operator (fs ++ (f ∷ [])) ops ≡ None
+snoc_over : (fs : List rust.Bracket) (f : rust.Bracket) (ops : List Op) → ops_in modes.Operator (fs ++ (f ∷ [])) ops ≡ None
 snoc_over [] f ops = refl
 snoc_over (g ∷ fs) f ops = refl
 
@@ -216,15 +216,15 @@ over_keeps (naming b room top outer) rest = refl
 over_keeps (closing b s room top outer) rest = refl
 over_keeps (operator room sum product []) rest = rw (summed_ops sum product) refl
 over_keeps (operator room sum product (top ∷ outer)) rest =
-    rw (snoc_over (kept_outer (suc room + top.nots) outer) (kept_frame (suc room) top)) refl
+    rw (snoc_over (kept_outer (suc room + top.nots) outer) (kept_bracket (suc room) top)) refl
 
-later_keeps : (k : Kind) (rest : List Lexeme) (found : Option State)
+later_keeps : (k : FormulaKind) (rest : List Lexeme) (found : Option State)
     → ((s : State) → ops_from k (keep s) rest ≡ as_ops (formula_from k s rest))
     → (kept_if found >>= λ r. ops_from k r rest) ≡ as_ops (found >>= λ s. formula_from k s rest)
 later_keeps k rest None all = refl
 later_keeps k rest (Some s) all = all s
 
-from_keeps : (k : Kind) (s : State) (tokens : List Lexeme) → ops_from k (keep s) tokens ≡ as_ops (formula_from k s tokens)
+from_keeps : (k : FormulaKind) (s : State) (tokens : List Lexeme) → ops_from k (keep s) tokens ≡ as_ops (formula_from k s tokens)
 unfolding ops_from formula_from
 from_keeps k s [] = over_keeps s []
 from_keeps k s (t ∷ rest) =
@@ -235,6 +235,6 @@ from_keeps k s (t ∷ rest) =
     ] refl
 
 -- the operations that are read are those of the formula that is read
-pub formula_keeps : (k : Kind) (tokens : List Lexeme) → ops_at k tokens ≡ as_ops (formula_at k tokens)
+pub formula_keeps : (k : FormulaKind) (tokens : List Lexeme) → ops_at k tokens ≡ as_ops (formula_at k tokens)
 unfolding ops_at formula_at
 formula_keeps k tokens = from_keeps k (operand 8192 fresh []) tokens

@@ -1,6 +1,6 @@
 -- White space and comments, as a loop skips them.
 use Rattle.pg_hoa_syntax.proofs.Common.{◌≡◌, ℕ, zero, suc, ◌≤◌, ◌<◌, List, [], ◌∷◌, length, Option, Some, None, refl, arith, eqb, nat_tests}
-use Rattle.pg_hoa_syntax.proofs.Common.{◌>>=◌, Fails, gap_step, behind_blank, gap_within, gap_from, Refusal, Memory, Wrong, chosen, some, none}
+use Rattle.pg_hoa_syntax.proofs.Common.{◌>>=◌, Fails, gap_step, behind_blank, gap_within, gap_from, PartRefusal, Memory, Wrong, chosen, some, none}
 
 -- a byte at least is taken, and no more comments are open than may be
 pub record Takes (deep : ℕ) (bytes : List ℕ) (x : ℕ × List ℕ) : Type 0 where
@@ -46,6 +46,6 @@ pub gap_none : (deep : ℕ) (bytes : List ℕ) → gap_step deep bytes ≡ None 
 unfolding gap_from gap_within
 gap_none deep bytes e = rw e refl
 
-pub gap_fails : (refusal : Refusal) (deep : ℕ) (bytes : List ℕ) → Fails refusal (gap_step deep bytes) → Fails refusal (gap_from deep bytes)
+pub gap_fails : (refusal : PartRefusal) (deep : ℕ) (bytes : List ℕ) → Fails refusal (gap_step deep bytes) → Fails refusal (gap_from deep bytes)
 gap_fails Memory deep bytes h = tt
 gap_fails (Wrong fault) deep bytes h = gap_none deep bytes h

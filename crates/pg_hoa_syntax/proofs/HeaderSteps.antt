@@ -1,5 +1,5 @@
 -- Header by header.
-use Rattle.pg_hoa_syntax.proofs.Common.{◌≡◌, ℕ, suc, zero, ◌<◌, List, ◌∷◌, length, Option, Some, None, refl, sym, arith, nat_tests, Refusal}
+use Rattle.pg_hoa_syntax.proofs.Common.{◌≡◌, ℕ, suc, zero, ◌<◌, List, ◌∷◌, length, Option, Some, None, refl, sym, arith, nat_tests, PartRefusal}
 use Rattle.pg_hoa_syntax.proofs.Common.{Memory, Wrong, Lexeme, header, body, first, ◌>>=◌, Fails, KeptHead, header_at, headers_within}
 use Rattle.pg_hoa_syntax.proofs.Common.{headers_from, none_is_some}
 use Rattle.pg_hoa_syntax.proofs.Turning.{first_end, first_token}
@@ -26,7 +26,7 @@ headers_none h (body ∷ ts) e = absurd (none_is_some (Some body, ts) (sym e))
 headers_none h (header name ∷ ts) e = absurd (none_is_some (Some (header name), ts) (sym e))
 headers_none h _ e = refl
 
-pub headers_fail : (refusal : Refusal) (h : KeptHead) (ts : List Lexeme) → Fails refusal (first ts) → Fails refusal (headers_from h ts)
+pub headers_fail : (refusal : PartRefusal) (h : KeptHead) (ts : List Lexeme) → Fails refusal (first ts) → Fails refusal (headers_from h ts)
 headers_fail Memory h ts f = tt
 headers_fail (Wrong fault) h ts f = headers_none h ts f
 
@@ -41,7 +41,7 @@ headers_more h name ts after x e f =
     let shorter = header_shorter h name after x f in
     rw (first_token ts (header name) after e, f) (enough (suc (length after)) (suc (length x.1)) x.0 x.1 (omega arith) (omega arith))
 
-pub header_fails : (refusal : Refusal) (h : KeptHead) (name : List ℕ) (ts after : List Lexeme) → first ts ≡ Some (Some (header name), after)
+pub header_fails : (refusal : PartRefusal) (h : KeptHead) (name : List ℕ) (ts after : List Lexeme) → first ts ≡ Some (Some (header name), after)
     → Fails refusal (header_at h name after) → Fails refusal (headers_from h ts)
 unfolding headers_from headers_within
 header_fails Memory h name ts after e f = tt

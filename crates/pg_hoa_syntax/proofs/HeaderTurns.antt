@@ -1,6 +1,6 @@
 -- Token by token through the values of headers.
 use Rattle.pg_hoa_syntax.proofs.Common.{◌≡◌, ℕ, suc, ◌<◌, Bool, true, false, eqb, List, [], ◌∷◌, ◌++◌, length, Option, Some, None, refl, sym}
-use Rattle.pg_hoa_syntax.proofs.Common.{ap, ◌∙◌, arith, nat_tests, list_all, Refusal, Memory, Wrong, Lexeme, number, identifier, string, stray}
+use Rattle.pg_hoa_syntax.proofs.Common.{ap, ◌∙◌, arith, nat_tests, list_all, PartRefusal, Memory, Wrong, Lexeme, number, identifier, string, stray}
 use Rattle.pg_hoa_syntax.proofs.Common.{first, ◌>>=◌, Fails, numeral_of, numbers_from, note, noted, noted_at, is_value, skipped_from}
 use Rattle.pg_hoa_syntax.proofs.Common.{is_name_byte, is_name, quoted_at, names_from, some, some_is, none_is_some}
 use Rattle.pg_hoa_syntax.proofs.Turning.{first_end, first_token}
@@ -58,7 +58,7 @@ all_noted kept rest after all t l e f =
     ap (λ (o : Option (List ℕ × List Lexeme)). o >>= λ x. some (noted x.0, x.1)) (sym l.left ∙ numbers_end l.front rest after t e f)
     ∙ ap (λ (ns : List ℕ). some (ns, rest)) (sym l.same)
 
-pub noted_fail : (refusal : Refusal) (kept : List ℕ) (rest all : List Lexeme) → NumbersLeft kept rest all → Fails refusal (first rest)
+pub noted_fail : (refusal : PartRefusal) (kept : List ℕ) (rest all : List Lexeme) → NumbersLeft kept rest all → Fails refusal (first rest)
     → Fails refusal (noted_at all)
 unfolding noted_at
 noted_fail Memory kept rest all l h = tt
@@ -73,7 +73,7 @@ skipped_none [] e = absurd cc
 skipped_none (stray ∷ ts) e = refl
 skipped_none (t ∷ ts) e = absurd cc
 
-pub skipped_fail : (refusal : Refusal) (ts : List Lexeme) → Fails refusal (first ts) → Fails refusal (skipped_from ts)
+pub skipped_fail : (refusal : PartRefusal) (ts : List Lexeme) → Fails refusal (first ts) → Fails refusal (skipped_from ts)
 skipped_fail Memory ts h = tt
 skipped_fail (Wrong fault) ts h = skipped_none ts h
 
@@ -126,7 +126,7 @@ names_none : (n m : ℕ) (names : List (List ℕ)) (tokens : List Lexeme) → n 
 unfolding names_from
 names_none n m names tokens same e = rw (same, e) refl
 
-pub names_fail : (refusal : Refusal) (n m : ℕ) (names : List (List ℕ)) (tokens : List Lexeme) → n ≡ suc m → Fails refusal (quoted_at tokens)
+pub names_fail : (refusal : PartRefusal) (n m : ℕ) (names : List (List ℕ)) (tokens : List Lexeme) → n ≡ suc m → Fails refusal (quoted_at tokens)
     → Fails refusal (names_from n names tokens)
 names_fail Memory n m names tokens same h = tt
 names_fail (Wrong fault) n m names tokens same h = names_none n m names tokens same h

@@ -1,9 +1,9 @@
 -- The tokens of the bytes, one after another.
 use Rattle.pg_hoa_syntax.proofs.Common.{◌≡◌, ℕ, zero, suc, ◌≤◌, ◌<◌, true, false, eqb, List, [], ◌∷◌, length, length-append, Option, Some, None}
-use Rattle.pg_hoa_syntax.proofs.Common.{refl, sym, ap, ◌∙◌, arith, flat_map, eqb-true, blank_bytes, Lexeme, stray, Fails, Refusal, Memory}
-use Rattle.pg_hoa_syntax.proofs.Common.{Wrong, Token, lexeme, gap_step, gap_within, gap_from, solid_at, behind_token, behind_gap, lex_within}
+use Rattle.pg_hoa_syntax.proofs.Common.{refl, sym, ap, ◌∙◌, arith, flat_map, eqb-true, blank_bytes, Lexeme, stray, Fails, PartRefusal, Memory}
+use Rattle.pg_hoa_syntax.proofs.Common.{Wrong, HoaToken, lexeme, gap_step, gap_within, gap_from, solid_at, behind_token, behind_gap, lex_within}
 use Rattle.pg_hoa_syntax.proofs.Common.{lex, first, none_is_some}
-use Rattle.pg_hoa_syntax.specs.declared.token.Token.TheVariants as tokens
+use Rattle.pg_hoa_syntax.specs.declared.token.HoaToken.TheVariants as tokens
 use Rattle.pg_hoa_syntax.proofs.SpellingBlanks.{gap_written}
 use Rattle.pg_hoa_syntax.proofs.SpellingTokens.{solid_takes, spelt_some}
 
@@ -67,15 +67,15 @@ lex_more bytes b mid t rest e h =
 
 -- ---- the first token
 
-pub first_lexeme : (t : Token) (rest : List Lexeme) → first (lexeme t ∷ rest) ≡ Some (Some (lexeme t), rest)
+pub first_lexeme : (t : HoaToken) (rest : List Lexeme) → first (lexeme t ∷ rest) ≡ Some (Some (lexeme t), rest)
 first_lexeme (tokens.Number n) rest = refl
 first_lexeme _ rest = refl
 
-pub gap_unread : (refusal : Refusal) (bytes : List ℕ) → Fails refusal (gap_from 0 bytes) → Fails refusal (first (lex bytes))
+pub gap_unread : (refusal : PartRefusal) (bytes : List ℕ) → Fails refusal (gap_from 0 bytes) → Fails refusal (first (lex bytes))
 gap_unread Memory bytes h = tt
 gap_unread (Wrong fault) bytes h = ap first (lex_fails bytes h)
 
-pub token_unread : (refusal : Refusal) (bytes mid : List ℕ) → gap_from 0 bytes ≡ Some mid → eqb (length mid) 0 ≡ false
+pub token_unread : (refusal : PartRefusal) (bytes mid : List ℕ) → gap_from 0 bytes ≡ Some mid → eqb (length mid) 0 ≡ false
     → Fails refusal (solid_at mid) → Fails refusal (first (lex bytes))
 token_unread refusal bytes [] e lt h = absurd cc
 token_unread Memory bytes (b ∷ mid) e lt h = tt
@@ -86,7 +86,7 @@ unfolding gap_from gap_within gap_step
 ended bytes [] e z = ap first (lex_ends bytes e) ∙ ap (λ (ts : List Lexeme). Some (None, ts)) (sym (lex_ends [] refl))
 ended bytes (b ∷ mid) e z = let y : length (b ∷ mid) ≡ 0 = eqb-true (length (b ∷ mid)) 0 z in absurd (omega arith)
 
-pub token_read : (bytes mid : List ℕ) (t : Token) (rest : List ℕ) → gap_from 0 bytes ≡ Some mid → solid_at mid ≡ Some (lexeme t, rest)
+pub token_read : (bytes mid : List ℕ) (t : HoaToken) (rest : List ℕ) → gap_from 0 bytes ≡ Some mid → solid_at mid ≡ Some (lexeme t, rest)
     → first (lex bytes) ≡ Some (Some (lexeme t), lex rest)
 unfolding solid_at
 token_read bytes [] t rest e h = absurd (none_is_some (lexeme t, rest) h)

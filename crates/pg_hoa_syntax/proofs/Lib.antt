@@ -5,7 +5,7 @@ pub mod FormulaLaws
 pub mod FormulaOps
 pub mod FormulasAgain
 pub mod FormulasTake
-pub mod Frames
+pub mod OpenBrackets
 pub mod Gaps
 pub mod HeaderHead
 pub mod HeaderLaws

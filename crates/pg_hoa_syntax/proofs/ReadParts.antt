@@ -1,6 +1,6 @@
 -- Headers, lines and end, read one after another.
 use Rattle.pg_hoa_syntax.proofs.Common.{◌≡◌, ◌∙◌, ◌≤◌, ℕ, List, [], ◌∷◌, map, length, Option, Some, None, refl, sym, ap, subst, arith}
-use Rattle.pg_hoa_syntax.proofs.Common.{nat_tests, ◌<◌, IfSome, flat_map, Op, Shape, Refusal, Memory, Wrong, Lexeme, Fails, Formula, postfix}
+use Rattle.pg_hoa_syntax.proofs.Common.{nat_tests, ◌<◌, IfSome, flat_map, Op, Shape, PartRefusal, Memory, Wrong, Lexeme, Fails, Formula, postfix}
 use Rattle.pg_hoa_syntax.proofs.Common.{HasShape, acceptances, KeptHead, KeptLine, headers_at, body_at, Preamble, IsPreambleOf, HasCondition}
 use Rattle.pg_hoa_syntax.proofs.Common.{HasNoPreamble, StartsBelow, listed, nothing_at, bound, states_in, state_count, Reads, NeverReads, some}
 use Rattle.pg_hoa_syntax.proofs.Common.{some_is, none_is_some, one_shape}
@@ -75,7 +75,7 @@ one_preamble h s t i j =
 
 -- ---- where reading fails
 
-pub headers_never : (refusal : Refusal) (tokens : List Lexeme) → Fails refusal (headers_at tokens) → NeverReads tokens refusal
+pub headers_never : (refusal : PartRefusal) (tokens : List Lexeme) → Fails refusal (headers_at tokens) → NeverReads tokens refusal
 headers_never Memory tokens f = tt
 headers_never (Wrong fault) tokens f = λ h s lines r. none_is_some (h, r.behind) (sym f ∙ r.headers)
 
@@ -90,7 +90,7 @@ preamble_too : (tokens behind : List Lexeme) (h k : KeptHead) (s : Preamble) (li
 preamble_too tokens behind h k s lines e r =
     subst (λ (g : KeptHead). IsPreambleOf g s) (same_head tokens behind r.behind h k e r.headers).0 r.preamble
 
-pub preamble_never : (refusal : Refusal) (tokens behind : List Lexeme) (h : KeptHead) → headers_at tokens ≡ Some (h, behind)
+pub preamble_never : (refusal : PartRefusal) (tokens behind : List Lexeme) (h : KeptHead) → headers_at tokens ≡ Some (h, behind)
     → HasNoPreamble h refusal → NeverReads tokens refusal
 preamble_never Memory tokens behind h e never = tt
 preamble_never (Wrong fault) tokens behind h e never = λ k s lines r. never s (preamble_too tokens behind h k s lines e r)
@@ -105,13 +105,13 @@ same_body tokens behind h k s t lines e i r = grind (
   same_head tokens behind r.behind h k e r.headers,
 )
 
-pub body_never : (refusal : Refusal) (tokens behind : List Lexeme) (h : KeptHead) (s : Preamble) → headers_at tokens ≡ Some (h, behind)
+pub body_never : (refusal : PartRefusal) (tokens behind : List Lexeme) (h : KeptHead) (s : Preamble) → headers_at tokens ≡ Some (h, behind)
     → IsPreambleOf h s → Fails refusal (body_at (bound s.states) (length s.names) s.sets behind) → NeverReads tokens refusal
 body_never Memory tokens behind h s e i f = tt
 body_never (Wrong fault) tokens behind h s e i f =
     λ k t lines r. none_is_some (lines, []) (sym f ∙ same_body tokens behind h k s t lines e i r)
 
-pub end_never : (refusal : Refusal) (tokens behind rest : List Lexeme) (h : KeptHead) (s : Preamble) (lines : List KeptLine)
+pub end_never : (refusal : PartRefusal) (tokens behind rest : List Lexeme) (h : KeptHead) (s : Preamble) (lines : List KeptLine)
     → headers_at tokens ≡ Some (h, behind) → IsPreambleOf h s → body_at (bound s.states) (length s.names) s.sets behind ≡ Some (lines, rest)
     → Fails refusal (nothing_at rest) → NeverReads tokens refusal
 end_never Memory tokens behind rest h s lines e i b f = tt

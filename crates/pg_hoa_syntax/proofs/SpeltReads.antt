@@ -1,5 +1,5 @@
 -- What is written is read.
-use Rattle.pg_hoa_syntax.proofs.Common.{◌≡◌, ◌∙◌, ◌≤◌, ℕ, List, [], ◌∷◌, ◌++◌, ◌*◌, ◌^◌, map, length, refl, sym, ap, subst, flat_map, Refusal}
+use Rattle.pg_hoa_syntax.proofs.Common.{◌≡◌, ◌∙◌, ◌≤◌, ℕ, List, [], ◌∷◌, ◌++◌, ◌*◌, ◌^◌, map, length, refl, sym, ap, subst, flat_map, PartRefusal}
 use Rattle.pg_hoa_syntax.proofs.Common.{Memory, Wrong, Lexeme, end, lex, Automaton, Written, IsText, Says, SaysNone, state_counts}
 use Rattle.pg_hoa_syntax.proofs.Common.{state_lexemes, text_lexemes, KeptHead, KeptLine, kept_of_line, headers_at, body_at, Preamble}
 use Rattle.pg_hoa_syntax.proofs.Common.{IsPreambleOf, Reads, NeverReads, SaysNothing, AreFew, bound, state_count, letter_count, some_is}
@@ -28,7 +28,7 @@ text_reads bytes w a text s =
 pub states_same : (w : Written) (a : Automaton) → Says w a → a.states ≡ state_count (written_preamble w a) (map kept_of_line w.lines)
 states_same w a s = s.states ∙ sym (states_are (flat_map state_counts w.headers) a.start w.lines)
 
-pub says_nothing : (bytes : List ℕ) (refusal : Refusal) → NeverReads (lex bytes) refusal → SaysNothing bytes refusal
+pub says_nothing : (bytes : List ℕ) (refusal : PartRefusal) → NeverReads (lex bytes) refusal → SaysNothing bytes refusal
 says_nothing bytes Memory never = tt
 says_nothing bytes (Wrong fault) never =
     λ w a text says. never (written_head w.headers) (written_preamble w a) (map kept_of_line w.lines) (text_reads bytes w a text says)

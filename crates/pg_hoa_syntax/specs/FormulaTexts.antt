@@ -1,7 +1,7 @@
 -- Labels and acceptance conditions as they are written.
 use Rattle.std.specs.Prelude.{ℕ, ◌+◌, ◌≤◌, ◌<◌, List, [], ◌∷◌, ◌++◌, codes, max}
-use Rattle.pg_hoa_syntax.specs.declared.formula.Kind.{Kind}
-use Rattle.pg_hoa_syntax.specs.declared.formula.Kind.TheVariants.{Label, Condition}
+use Rattle.pg_hoa_syntax.specs.declared.formula.FormulaKind.{FormulaKind}
+use Rattle.pg_hoa_syntax.specs.declared.formula.FormulaKind.TheVariants.{Label, Condition}
 use Rattle.pg_hoa_automaton.specs.Formulas.{Formula, yes, no, proposition, inf, fin, not, both, either, bracket}
 use Rattle.pg_hoa_syntax.specs.Lexemes.{Lexeme, number, identifier, left_paren, right_paren, bang, ampersand, bar}
 
@@ -40,7 +40,7 @@ nesting _ = 0
 
 -- a label speaks of propositions below the given number, and may have `!`; a condition speaks of sets below the given
 -- number
-abbrev pub IsOf : Kind → Formula → Type 0
+abbrev pub IsOf : FormulaKind → Formula → Type 0
 IsOf (Label n) (inf s) = ⊥
 IsOf (Label n) (fin s) = ⊥
 IsOf (Condition n) (proposition a) = ⊥
@@ -55,7 +55,7 @@ IsOf k (bracket f) = IsOf k f
 IsOf k _ = Unit {0}
 
 -- the formula can be written: it is grouped well, of the kind, and has at most 8,192 brackets and `!` around one place
-pub record IsWritten (kind : Kind) (f : Formula) : Type 0 where
+pub record IsWritten (kind : FormulaKind) (f : Formula) : Type 0 where
   pub grouped : IsGrouped f
   pub of_kind : IsOf kind f
   pub nested : nesting f ≤ 8192

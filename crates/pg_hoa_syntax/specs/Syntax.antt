@@ -4,7 +4,7 @@ use Rattle.std.specs.Prelude.{Some, None, codes, get_or, Contains}
 use Rattle.std.specs.List.{fold, flat_map, list_any, AllByRecursion, All, range_with_len}
 use Rattle.pg_hoa_syntax.specs.Lexemes.{Lexeme, number, identifier, header, string, body, end, left_bracket, right_bracket, left_brace}
 use Rattle.pg_hoa_syntax.specs.Lexemes.{right_brace, Character, plain, escaped, Spells}
-use Rattle.pg_hoa_syntax.specs.declared.formula.Kind.TheVariants.{Label, Condition}
+use Rattle.pg_hoa_syntax.specs.declared.formula.FormulaKind.TheVariants.{Label, Condition}
 use Rattle.pg_hoa_automaton.specs.Formulas.{Formula}
 use Rattle.pg_hoa_syntax.specs.FormulaTexts.{IsWritten, formula_lexemes}
 use Rattle.pg_hoa_automaton.specs.Shapes.{HasShape}

@@ -9,15 +9,15 @@ ghost use Rattle.pg_hoa_syntax.specs.Mirrors.Kept.{edge_in, line_in, may_hold, k
 ghost use Rattle.pg_hoa_syntax.specs.Mirrors.BodyScan.{due, state_of, new_state, set_in, rising_sets_at, sets_if, behind_label, target_at};
 ghost use Rattle.pg_hoa_syntax.specs.Mirrors.BodyScan.{edge_at, begins_edge, kept_edges_at, behind_name, line_at, begins_line, body_at};
 
-use crate::fault::{LeftOutName, PartFault, Refusal};
-use crate::formula::{Kind, Op, read_formula};
-use crate::token::{Token, next_token, unexpected};
+use crate::fault::{LeftOutName, PartFault, PartRefusal};
+use crate::formula::{FormulaKind, Op, read_formula};
+use crate::token::{HoaToken, next_token, unexpected};
 use std::alloc::{AllocError, Global};
 
 /// An edge as it is read: its label, the state that it leads to, and the sets written after it, each once and the least
 /// first.
 #[derive(Drop)]
-pub struct Edge {
+pub struct ReadEdge {
     pub label: Vec<Op>,
     pub target: u32,
     pub sets: Vec<u32>,
@@ -30,7 +30,7 @@ pub struct ReadState {
     pub state: u32,
     pub greatest: u32,
     pub sets: Vec<u32>,
-    pub edges: Vec<Edge>,
+    pub edges: Vec<ReadEdge>,
 }
 
 /// The numbers of states, propositions and sets that there may be: each number in the body must be below its count.
@@ -44,40 +44,45 @@ pub struct Ranges {
 
 /// Reads the token that must come next, and returns it with the number of bytes left from it on and the bytes after it.
 #[tactic(auto, unfolding(crate::specs::Mirrors::BodyScan::due))]
-fn due_token(bytes: &[u8]) -> Result<(Token<'_>, usize, &[u8]), Refusal>
+fn due_token(bytes: &[u8]) -> Result<(HoaToken<'_>, usize, &[u8]), PartRefusal>
     ensures { Gives (λ x. (lexeme x.0, lex x.2.now)) result (due (lex bytes.now)) }
 {
     let (found, left, rest) = next_token(bytes)?;
     match found {
         Some(token) => Ok((token, left, rest)),
-        None => Err(Refusal::Wrong(PartFault::Syntax(left))),
+        None => Err(PartRefusal::Wrong(PartFault::Syntax(left))),
     }
 }
 
 /// Returns the number of a state, which must be below `states`.
 #[tactic(auto, unfolding(crate::specs::Mirrors::BodyScan::state_of))]
-fn state_of(states: u32, token: Token<'_>, left: usize) -> Result<u32, Refusal>
+fn state_of(states: u32, token: HoaToken<'_>, left: usize) -> Result<u32, PartRefusal>
     requires { states ≤ 65535 }
     ensures value { Gives (λ x. x) result (state_of states (lexeme token.entry)) }
     ensures below { IfOk result (λ x. x < states) }
 {
     match token {
-        Token::Number(state) => {
+        HoaToken::Number(state) => {
             if state > 65_534 {
-                Err(Refusal::Wrong(PartFault::TooLarge))
+                Err(PartRefusal::Wrong(PartFault::TooLarge))
             } else if state >= states {
-                Err(Refusal::Wrong(PartFault::OutOfRange(left)))
+                Err(PartRefusal::Wrong(PartFault::OutOfRange(left)))
             } else {
                 Ok(state)
             }
         }
-        _ => Err(Refusal::Wrong(unexpected(token, left))),
+        _ => Err(PartRefusal::Wrong(unexpected(token, left))),
     }
 }
 
 /// Returns the number of a state that has no line so far.
 #[tactic(auto, unfolding(crate::specs::Mirrors::BodyScan::new_state, crate::specs::Mirrors::BodyScan::state_of))]
-fn new_state(states: u32, seen: &[bool], token: Token<'_>, left: usize) -> Result<u32, Refusal>
+fn new_state(
+    states: u32,
+    seen: &[bool],
+    token: HoaToken<'_>,
+    left: usize,
+) -> Result<u32, PartRefusal>
     requires few { states ≤ 65535 }
     requires all { length seen.now ≡ states }
     ensures value { Gives (λ x. x) result
@@ -85,14 +90,14 @@ fn new_state(states: u32, seen: &[bool], token: Token<'_>, left: usize) -> Resul
     ensures below { IfOk result (λ x. x < states) }
 {
     match token {
-        Token::LeftBracket => Err(Refusal::Wrong(PartFault::LeftOut(
+        HoaToken::LeftBracket => Err(PartRefusal::Wrong(PartFault::LeftOut(
             LeftOutName::StateLabel,
             left,
         ))),
         _ => {
             let state = state_of(states, token, left)?;
             if seen[state as usize] {
-                Err(Refusal::Wrong(PartFault::Syntax(left)))
+                Err(PartRefusal::Wrong(PartFault::Syntax(left)))
             } else {
                 Ok(state)
             }
@@ -102,19 +107,19 @@ fn new_state(states: u32, seen: &[bool], token: Token<'_>, left: usize) -> Resul
 
 /// Returns a number between the braces around sets, or None at the last brace.
 #[tactic(auto, unfolding(crate::specs::Mirrors::BodyScan::set_in))]
-fn set_in(sets: u32, token: Token<'_>, left: usize) -> Result<Option<u32>, Refusal>
+fn set_in(sets: u32, token: HoaToken<'_>, left: usize) -> Result<Option<u32>, PartRefusal>
     ensures { Gives (λ x. x) result (set_in sets (lexeme token.entry)) }
 {
     match token {
-        Token::Number(set) => {
+        HoaToken::Number(set) => {
             if set < sets {
                 Ok(Some(set))
             } else {
-                Err(Refusal::Wrong(PartFault::OutOfRange(left)))
+                Err(PartRefusal::Wrong(PartFault::OutOfRange(left)))
             }
         }
-        Token::RightBrace => Ok(None),
-        _ => Err(Refusal::Wrong(unexpected(token, left))),
+        HoaToken::RightBrace => Ok(None),
+        _ => Err(PartRefusal::Wrong(unexpected(token, left))),
     }
 }
 
@@ -134,7 +139,7 @@ fn put(numbers: &mut Vec<u32>, number: u32) -> Result<(), AllocError>
 
 /// Reads the numbers after `{` up to `}`, and returns them, each once and the least first, with the bytes after the
 /// `}`.
-fn read_sets(alloc: Global, sets: u32, bytes: &[u8]) -> Result<(Vec<u32>, &[u8]), Refusal>
+fn read_sets(alloc: Global, sets: u32, bytes: &[u8]) -> Result<(Vec<u32>, &[u8]), PartRefusal>
     ensures { Gives (λ x. (x.0.items, lex x.1.now)) result (rising_sets_at sets (lex bytes.now)) }
 {
     let mut numbers = Vec::new(alloc);
@@ -153,31 +158,31 @@ fn read_sets(alloc: Global, sets: u32, bytes: &[u8]) -> Result<(Vec<u32>, &[u8])
 
 /// Reads the sets if there is a `{`, or else takes nothing. Returns the sets, and the bytes after them.
 #[tactic(auto, unfolding(crate::specs::Mirrors::BodyScan::sets_if))]
-fn sets_if(alloc: Global, sets: u32, bytes: &[u8]) -> Result<(Vec<u32>, &[u8]), Refusal>
+fn sets_if(alloc: Global, sets: u32, bytes: &[u8]) -> Result<(Vec<u32>, &[u8]), PartRefusal>
     ensures { Gives (λ x. (x.0.items, lex x.1.now)) result (sets_if sets (lex bytes.now)) }
 {
     let (token, _, rest) = due_token(bytes)?;
     match token {
-        Token::LeftBrace => read_sets(alloc, sets, rest),
+        HoaToken::LeftBrace => read_sets(alloc, sets, rest),
         _ => Ok((Vec::new(alloc), bytes)),
     }
 }
 
 /// Returns the bytes after the `]` that must come next.
 #[tactic(auto, unfolding(crate::specs::Mirrors::BodyScan::behind_label))]
-fn behind_label(bytes: &[u8]) -> Result<&[u8], Refusal>
+fn behind_label(bytes: &[u8]) -> Result<&[u8], PartRefusal>
     ensures { Gives (λ x. lex x.now) result (behind_label (lex bytes.now)) }
 {
     let (token, left, rest) = due_token(bytes)?;
     match token {
-        Token::RightBracket => Ok(rest),
-        _ => Err(Refusal::Wrong(unexpected(token, left))),
+        HoaToken::RightBracket => Ok(rest),
+        _ => Err(PartRefusal::Wrong(unexpected(token, left))),
     }
 }
 
 /// Reads the state that an edge leads to, which no `&` may follow, and returns it with the bytes after it.
 #[tactic(auto, unfolding(crate::specs::Mirrors::BodyScan::target_at))]
-fn read_target(states: u32, bytes: &[u8]) -> Result<(u32, &[u8]), Refusal>
+fn read_target(states: u32, bytes: &[u8]) -> Result<(u32, &[u8]), PartRefusal>
     requires { states ≤ 65535 }
     ensures { Gives (λ x. (x.0, lex x.1.now)) result (target_at states (lex bytes.now)) }
 {
@@ -185,7 +190,7 @@ fn read_target(states: u32, bytes: &[u8]) -> Result<(u32, &[u8]), Refusal>
     let target = state_of(states, token, left)?;
     let (next, next_left, _) = due_token(rest)?;
     match next {
-        Token::Ampersand => Err(Refusal::Wrong(PartFault::LeftOut(
+        HoaToken::Ampersand => Err(PartRefusal::Wrong(PartFault::LeftOut(
             LeftOutName::Universal,
             next_left,
         ))),
@@ -195,17 +200,17 @@ fn read_target(states: u32, bytes: &[u8]) -> Result<(u32, &[u8]), Refusal>
 
 /// Reads an edge after its `[`, and returns it with the bytes after it.
 #[tactic(auto, unfolding(crate::specs::Mirrors::BodyScan::edge_at))]
-fn read_edge(alloc: Global, ranges: Ranges, bytes: &[u8]) -> Result<(Edge, &[u8]), Refusal>
+fn read_edge(alloc: Global, ranges: Ranges, bytes: &[u8]) -> Result<(ReadEdge, &[u8]), PartRefusal>
     requires { ranges.states ≤ 65535 }
     ensures { Gives (λ x. (edge_in x.0, lex x.1.now)) result
         (edge_at ranges.states ranges.propositions ranges.sets (lex bytes.now)) }
 {
-    let (label, rest) = read_formula(alloc, Kind::Label(ranges.propositions), bytes)?;
+    let (label, rest) = read_formula(alloc, FormulaKind::Label(ranges.propositions), bytes)?;
     let rest = behind_label(rest)?;
     let (target, rest) = read_target(ranges.states, rest)?;
     let (sets, rest) = sets_if(alloc, ranges.sets, rest)?;
     Ok((
-        Edge {
+        ReadEdge {
             label,
             target,
             sets,
@@ -216,12 +221,12 @@ fn read_edge(alloc: Global, ranges: Ranges, bytes: &[u8]) -> Result<(Edge, &[u8]
 
 /// Whether an edge begins. A number there is an edge without a label, which is refused.
 #[tactic(auto, unfolding(crate::specs::Mirrors::BodyScan::begins_edge))]
-fn begins_edge(token: Token<'_>, left: usize) -> Result<bool, Refusal>
+fn begins_edge(token: HoaToken<'_>, left: usize) -> Result<bool, PartRefusal>
     ensures { Gives (λ x. x) result (begins_edge (lexeme token.entry)) }
 {
     match token {
-        Token::LeftBracket => Ok(true),
-        Token::Number(_) => Err(Refusal::Wrong(PartFault::LeftOut(
+        HoaToken::LeftBracket => Ok(true),
+        HoaToken::Number(_) => Err(PartRefusal::Wrong(PartFault::LeftOut(
             LeftOutName::ImplicitLabel,
             left,
         ))),
@@ -240,7 +245,7 @@ fn may_hold(label: &[Op]) -> bool
 }
 
 /// Appends an edge, if a letter may match its label.
-fn keep(edges: &mut Vec<Edge>, edge: Edge) -> Result<(), AllocError>
+fn keep(edges: &mut Vec<ReadEdge>, edge: ReadEdge) -> Result<(), AllocError>
     ensures { OnOk result (map edge_in edges.new.items ≡ map edge_in edges.old.items ++ kept_edges (edge_in edge ∷ [])) }
 {
     if may_hold(&edge.label) {
@@ -256,7 +261,7 @@ fn read_edges(
     ranges: Ranges,
     state: u32,
     bytes: &[u8],
-) -> Result<(Vec<Edge>, u32, &[u8]), Refusal>
+) -> Result<(Vec<ReadEdge>, u32, &[u8]), PartRefusal>
     requires { ranges.states ≤ 65535 }
     ensures { Gives (λ x. (map edge_in x.0.items, x.1, lex x.2.now)) result
         (kept_edges_at state ranges.states ranges.propositions ranges.sets (lex bytes.now)) }
@@ -279,12 +284,12 @@ fn read_edges(
 
 /// Returns the bytes after the name of a state, if there is one, or else all of the bytes.
 #[tactic(auto, unfolding(crate::specs::Mirrors::BodyScan::behind_name))]
-fn behind_name(bytes: &[u8]) -> Result<&[u8], Refusal>
+fn behind_name(bytes: &[u8]) -> Result<&[u8], PartRefusal>
     ensures { Gives (λ x. lex x.now) result (behind_name (lex bytes.now)) }
 {
     let (token, _, rest) = due_token(bytes)?;
     match token {
-        Token::String(_) => Ok(rest),
+        HoaToken::String(_) => Ok(rest),
         _ => Ok(bytes),
     }
 }
@@ -297,7 +302,7 @@ fn read_line<'a>(
     ranges: Ranges,
     seen: &[bool],
     bytes: &'a [u8],
-) -> Result<(ReadState, &'a [u8]), Refusal>
+) -> Result<(ReadState, &'a [u8]), PartRefusal>
     requires few { ranges.states ≤ 65535 }
     requires all { length seen.now ≡ ranges.states }
     ensures value { Gives (λ x. (line_in x.0, lex x.1.now)) result
@@ -321,19 +326,19 @@ fn read_line<'a>(
 
 /// Whether a line begins. Otherwise the body ends there.
 #[tactic(auto, unfolding(crate::specs::Mirrors::BodyScan::begins_line))]
-fn begins_line(token: Token<'_>, left: usize) -> Result<bool, Refusal>
+fn begins_line(token: HoaToken<'_>, left: usize) -> Result<bool, PartRefusal>
     ensures { Gives (λ x. x) result (begins_line (lexeme token.entry)) }
 {
     match token {
-        Token::Header(name) => {
+        HoaToken::Header(name) => {
             if name == b"State".as_slice() {
                 Ok(true)
             } else {
-                Err(Refusal::Wrong(PartFault::Syntax(left)))
+                Err(PartRefusal::Wrong(PartFault::Syntax(left)))
             }
         }
-        Token::End => Ok(false),
-        _ => Err(Refusal::Wrong(unexpected(token, left))),
+        HoaToken::End => Ok(false),
+        _ => Err(PartRefusal::Wrong(unexpected(token, left))),
     }
 }
 
@@ -342,7 +347,7 @@ pub fn read_body(
     alloc: Global,
     ranges: Ranges,
     bytes: &[u8],
-) -> Result<(Vec<ReadState>, &[u8]), Refusal>
+) -> Result<(Vec<ReadState>, &[u8]), PartRefusal>
     requires { ranges.states ≤ 65535 }
     ensures { Gives (λ x. (map line_in x.0.items, lex x.1.now)) result
         (body_at ranges.states ranges.propositions ranges.sets (lex bytes.now)) }

@@ -1,7 +1,7 @@
 //! Why a text is refused, with offsets counted from its end.
 
 ghost use Rattle.std.specs.Prelude.{◌≡◌};
-ghost use Rattle.pg_hoa_syntax.specs.declared.fault.Refusal.TheVariants.{Memory};
+ghost use Rattle.pg_hoa_syntax.specs.declared.fault.PartRefusal.TheVariants.{Memory};
 
 use std::alloc::{AllocError, AllocFailed};
 use std::fmt;
@@ -73,25 +73,25 @@ pub enum PartFault {
 
 /// Why a text, or its last part, is refused.
 #[derive(Clone, Copy)]
-pub enum Refusal {
+pub enum PartRefusal {
     /// Memory ran out.
     Memory,
     /// The text is wrong, however much memory there is.
     Wrong(PartFault),
 }
 
-impl From<AllocError> for Refusal {
+impl From<AllocError> for PartRefusal {
     ghost from_gives = { λ _ e. e ≡ Memory };
 
-    fn from(_e: AllocError) -> Refusal {
-        Refusal::Memory
+    fn from(_e: AllocError) -> PartRefusal {
+        PartRefusal::Memory
     }
 }
 
-impl<T: Drop> From<AllocFailed<T>> for Refusal {
+impl<T: Drop> From<AllocFailed<T>> for PartRefusal {
     ghost from_gives = { λ _ e. e ≡ Memory };
 
-    fn from(_e: AllocFailed<T>) -> Refusal {
-        Refusal::Memory
+    fn from(_e: AllocFailed<T>) -> PartRefusal {
+        PartRefusal::Memory
     }
 }

@@ -8,13 +8,13 @@ ghost use Rattle.pg_hoa_syntax.specs.Mirrors.FormulaRun.{view, not_ops, split_la
 ghost use Rattle.pg_hoa_syntax.specs.Mirrors.FormulaRun.{product_at, sum_at, closed_at, limit_at, word_at, operand_turn, operator_turn};
 ghost use Rattle.pg_hoa_syntax.specs.Mirrors.FormulaRun.{opening_turn, naming_turn, closing_turn, turn_at, taken_at, over_at, ops_at};
 
-use crate::fault::{LeftOutName, PartFault, Refusal};
-use crate::token::{Token, next_token, unexpected};
+use crate::fault::{LeftOutName, PartFault, PartRefusal};
+use crate::token::{HoaToken, next_token, unexpected};
 use std::alloc::Global;
 
 /// The kind of a formula: a label over the given number of propositions, or a condition over the given number of sets.
 #[derive(Clone, Copy)]
-pub enum Kind {
+pub enum FormulaKind {
     Label(u32),
     Condition(u32),
 }
@@ -42,7 +42,7 @@ pub enum Op {
 
 /// What was read before the next operand, within one bracket.
 #[derive(Clone, Copy)]
-pub struct Frame {
+pub struct Bracket {
     /// Whether an operand of `|` waits for the other one.
     sum: bool,
     /// Whether an operand of `&` waits for the other one.
@@ -68,15 +68,15 @@ pub enum Mode {
 
 /// A formula that is being read.
 #[derive(Drop)]
-pub struct Reading {
+pub struct FormulaReading {
     mode: Mode,
-    top: Frame,
-    outer: Vec<Frame>,
+    top: Bracket,
+    outer: Vec<Bracket>,
     ops: Vec<Op>,
 }
 
 /// Appends `count` negations to the operations.
-fn push_nots(mut ops: Vec<Op>, count: u32) -> Result<Vec<Op>, Refusal>
+fn push_nots(mut ops: Vec<Op>, count: u32) -> Result<Vec<Op>, PartRefusal>
     ensures { Gives (λ x. x.items) result (Some (ops.items ++ not_ops count)) }
 {
     for _ in 0..count {
@@ -86,7 +86,7 @@ fn push_nots(mut ops: Vec<Op>, count: u32) -> Result<Vec<Op>, Refusal>
 }
 
 /// Returns the open brackets without the innermost, and the innermost, if any is open.
-fn split_last(mut outer: Vec<Frame>) -> Option<(Vec<Frame>, Frame)>
+fn split_last(mut outer: Vec<Bracket>) -> Option<(Vec<Bracket>, Bracket)>
     ensures { option_map (λ x. (x.0.items, x.1)) result ≡ split_last outer.items }
 {
     match outer.pop() {
@@ -97,7 +97,7 @@ fn split_last(mut outer: Vec<Frame>) -> Option<(Vec<Frame>, Frame)>
 
 /// Returns the reading after an operand whose operations it has already.
 #[tactic(auto, unfolding(crate::specs::Mirrors::FormulaRun::completed_at))]
-fn completed(reading: Reading) -> Result<Reading, Refusal>
+fn completed(reading: FormulaReading) -> Result<FormulaReading, PartRefusal>
     ensures { Gives view result (completed_at (view reading)) }
 {
     let top = reading.top;
@@ -105,9 +105,9 @@ fn completed(reading: Reading) -> Result<Reading, Refusal>
     if top.product {
         ops.push(Op::Both)?;
     }
-    Ok(Reading {
+    Ok(FormulaReading {
         mode: Mode::Operator,
-        top: Frame {
+        top: Bracket {
             sum: top.sum,
             product: false,
             nots: 0,
@@ -120,7 +120,7 @@ fn completed(reading: Reading) -> Result<Reading, Refusal>
 
 /// Returns the reading after an operand of one operation.
 #[tactic(auto, unfolding(crate::specs::Mirrors::FormulaRun::operand_at))]
-fn operand(mut reading: Reading, op: Op) -> Result<Reading, Refusal>
+fn operand(mut reading: FormulaReading, op: Op) -> Result<FormulaReading, PartRefusal>
     ensures { Gives view result (operand_at (view reading) op) }
 {
     reading.ops.push(op)?;
@@ -129,7 +129,7 @@ fn operand(mut reading: Reading, op: Op) -> Result<Reading, Refusal>
 
 /// Returns the reading after a `!`.
 #[tactic(auto, unfolding(crate::specs::Mirrors::FormulaRun::negated_at))]
-fn negated(mut reading: Reading) -> Result<Reading, Refusal>
+fn negated(mut reading: FormulaReading) -> Result<FormulaReading, PartRefusal>
     ensures { Gives view result (negated_at (view reading)) }
 {
     if reading.top.nots < reading.top.room {
@@ -137,20 +137,20 @@ fn negated(mut reading: Reading) -> Result<Reading, Refusal>
         reading.top.nots += 1;
         Ok(reading)
     } else {
-        Err(Refusal::Wrong(PartFault::TooLarge))
+        Err(PartRefusal::Wrong(PartFault::TooLarge))
     }
 }
 
 /// Returns the reading after an opening bracket.
 #[tactic(auto, unfolding(crate::specs::Mirrors::FormulaRun::opened_at))]
-fn opened(mut reading: Reading) -> Result<Reading, Refusal>
+fn opened(mut reading: FormulaReading) -> Result<FormulaReading, PartRefusal>
     ensures { Gives view result (opened_at (view reading)) }
 {
     let top = reading.top;
     if top.nots < top.room {
         reading.outer.push(top)?;
         reading.mode = Mode::Operand;
-        reading.top = Frame {
+        reading.top = Bracket {
             sum: false,
             product: false,
             nots: 0,
@@ -158,13 +158,13 @@ fn opened(mut reading: Reading) -> Result<Reading, Refusal>
         };
         Ok(reading)
     } else {
-        Err(Refusal::Wrong(PartFault::TooLarge))
+        Err(PartRefusal::Wrong(PartFault::TooLarge))
     }
 }
 
 /// Returns the reading after an `&`.
 #[tactic(auto, unfolding(crate::specs::Mirrors::FormulaRun::product_at))]
-fn product(mut reading: Reading) -> Result<Reading, Refusal>
+fn product(mut reading: FormulaReading) -> Result<FormulaReading, PartRefusal>
     ensures { Gives view result (product_at (view reading)) }
 {
     reading.mode = Mode::Operand;
@@ -175,7 +175,7 @@ fn product(mut reading: Reading) -> Result<Reading, Refusal>
 
 /// Returns the reading after a `|`.
 #[tactic(auto, unfolding(crate::specs::Mirrors::FormulaRun::sum_at))]
-fn sum(mut reading: Reading) -> Result<Reading, Refusal>
+fn sum(mut reading: FormulaReading) -> Result<FormulaReading, PartRefusal>
     ensures { Gives view result (sum_at (view reading)) }
 {
     if reading.top.sum {
@@ -190,7 +190,7 @@ fn sum(mut reading: Reading) -> Result<Reading, Refusal>
 
 /// Returns the reading after a closing bracket, with `left` bytes left from it on.
 #[tactic(auto, unfolding(crate::specs::Mirrors::FormulaRun::closed_at))]
-fn closed(reading: Reading, left: usize) -> Result<Reading, Refusal>
+fn closed(reading: FormulaReading, left: usize) -> Result<FormulaReading, PartRefusal>
     ensures { Gives view result (closed_at (view reading)) }
 {
     let mut ops = reading.ops;
@@ -198,24 +198,29 @@ fn closed(reading: Reading, left: usize) -> Result<Reading, Refusal>
         ops.push(Op::Either)?;
     }
     match split_last(reading.outer) {
-        Some((outer, top)) => completed(Reading {
+        Some((outer, top)) => completed(FormulaReading {
             mode: Mode::Operand,
             top,
             outer,
             ops,
         }),
-        None => Err(Refusal::Wrong(PartFault::Syntax(left))),
+        None => Err(PartRefusal::Wrong(PartFault::Syntax(left))),
     }
 }
 
 /// Returns the reading after a word that must be `Inf` or `Fin`, in a condition.
 #[tactic(auto, unfolding(crate::specs::Mirrors::FormulaRun::limit_at))]
-fn limit(kind: Kind, word: &[u8], mut reading: Reading, left: usize) -> Result<Reading, Refusal>
+fn limit(
+    kind: FormulaKind,
+    word: &[u8],
+    mut reading: FormulaReading,
+    left: usize,
+) -> Result<FormulaReading, PartRefusal>
     ensures { Gives view result (limit_at kind word.now (view reading)) }
 {
     match kind {
-        Kind::Label(_) => Err(Refusal::Wrong(PartFault::Syntax(left))),
-        Kind::Condition(_) => {
+        FormulaKind::Label(_) => Err(PartRefusal::Wrong(PartFault::Syntax(left))),
+        FormulaKind::Condition(_) => {
             if word == b"Inf".as_slice() {
                 reading.mode = Mode::Opening(true);
                 Ok(reading)
@@ -223,7 +228,7 @@ fn limit(kind: Kind, word: &[u8], mut reading: Reading, left: usize) -> Result<R
                 reading.mode = Mode::Opening(false);
                 Ok(reading)
             } else {
-                Err(Refusal::Wrong(PartFault::Syntax(left)))
+                Err(PartRefusal::Wrong(PartFault::Syntax(left)))
             }
         }
     }
@@ -231,7 +236,12 @@ fn limit(kind: Kind, word: &[u8], mut reading: Reading, left: usize) -> Result<R
 
 /// Returns the reading after a word.
 #[tactic(auto, unfolding(crate::specs::Mirrors::FormulaRun::word_at))]
-fn word(kind: Kind, word: &[u8], reading: Reading, left: usize) -> Result<Reading, Refusal>
+fn word(
+    kind: FormulaKind,
+    word: &[u8],
+    reading: FormulaReading,
+    left: usize,
+) -> Result<FormulaReading, PartRefusal>
     ensures { Gives view result (word_at kind word.now (view reading)) }
 {
     if word == b"t".as_slice() {
@@ -246,102 +256,116 @@ fn word(kind: Kind, word: &[u8], reading: Reading, left: usize) -> Result<Readin
 /// Returns the reading after a token where an operand must come.
 #[tactic(auto, unfolding(crate::specs::Mirrors::FormulaRun::operand_turn))]
 fn operand_turn(
-    kind: Kind,
-    reading: Reading,
-    token: Token<'_>,
+    kind: FormulaKind,
+    reading: FormulaReading,
+    token: HoaToken<'_>,
     left: usize,
-) -> Result<Reading, Refusal>
+) -> Result<FormulaReading, PartRefusal>
     ensures { Gives view result (operand_turn kind (view reading) (lexeme token.entry)) }
 {
     match (kind, token) {
-        (Kind::Label(_), Token::Bang) => negated(reading),
-        (Kind::Label(propositions), Token::Number(a)) => {
+        (FormulaKind::Label(_), HoaToken::Bang) => negated(reading),
+        (FormulaKind::Label(propositions), HoaToken::Number(a)) => {
             if a < propositions {
                 operand(reading, Op::Proposition(a))
             } else {
-                Err(Refusal::Wrong(PartFault::OutOfRange(left)))
+                Err(PartRefusal::Wrong(PartFault::OutOfRange(left)))
             }
         }
-        (_, Token::LeftParen) => opened(reading),
-        (_, Token::Identifier(w)) => word(kind, w, reading, left),
-        _ => Err(Refusal::Wrong(unexpected(token, left))),
+        (_, HoaToken::LeftParen) => opened(reading),
+        (_, HoaToken::Identifier(w)) => word(kind, w, reading, left),
+        _ => Err(PartRefusal::Wrong(unexpected(token, left))),
     }
 }
 
 /// Returns the reading after a token where an operand has ended.
 #[tactic(auto, unfolding(crate::specs::Mirrors::FormulaRun::operator_turn))]
-fn operator_turn(reading: Reading, token: Token<'_>, left: usize) -> Result<Reading, Refusal>
+fn operator_turn(
+    reading: FormulaReading,
+    token: HoaToken<'_>,
+    left: usize,
+) -> Result<FormulaReading, PartRefusal>
     ensures { Gives view result (operator_turn (view reading) (lexeme token.entry)) }
 {
     match token {
-        Token::Ampersand => product(reading),
-        Token::Bar => sum(reading),
-        Token::RightParen => closed(reading, left),
-        _ => Err(Refusal::Wrong(unexpected(token, left))),
+        HoaToken::Ampersand => product(reading),
+        HoaToken::Bar => sum(reading),
+        HoaToken::RightParen => closed(reading, left),
+        _ => Err(PartRefusal::Wrong(unexpected(token, left))),
     }
 }
 
 /// Returns the reading after a token where the bracket after `Inf`, if `positive`, or `Fin` must come.
 #[tactic(auto, unfolding(crate::specs::Mirrors::FormulaRun::opening_turn))]
 fn opening_turn(
-    mut reading: Reading,
+    mut reading: FormulaReading,
     positive: bool,
-    token: Token<'_>,
+    token: HoaToken<'_>,
     left: usize,
-) -> Result<Reading, Refusal>
+) -> Result<FormulaReading, PartRefusal>
     ensures { Gives view result (opening_turn (view reading) positive (lexeme token.entry)) }
 {
     match token {
-        Token::LeftParen => {
+        HoaToken::LeftParen => {
             reading.mode = Mode::Naming(positive);
             Ok(reading)
         }
-        _ => Err(Refusal::Wrong(unexpected(token, left))),
+        _ => Err(PartRefusal::Wrong(unexpected(token, left))),
     }
 }
 
 /// Returns the reading after a token where the number of a set must come.
 #[tactic(auto, unfolding(crate::specs::Mirrors::FormulaRun::naming_turn))]
 fn naming_turn(
-    kind: Kind,
-    mut reading: Reading,
+    kind: FormulaKind,
+    mut reading: FormulaReading,
     positive: bool,
-    token: Token<'_>,
+    token: HoaToken<'_>,
     left: usize,
-) -> Result<Reading, Refusal>
+) -> Result<FormulaReading, PartRefusal>
     ensures { Gives view result (naming_turn kind (view reading) positive (lexeme token.entry)) }
 {
     match (kind, token) {
-        (Kind::Condition(sets), Token::Number(set)) => {
+        (FormulaKind::Condition(sets), HoaToken::Number(set)) => {
             if set < sets {
                 reading.mode = Mode::Closing(if positive { Op::Inf(set) } else { Op::Fin(set) });
                 Ok(reading)
             } else {
-                Err(Refusal::Wrong(PartFault::OutOfRange(left)))
+                Err(PartRefusal::Wrong(PartFault::OutOfRange(left)))
             }
         }
-        (Kind::Condition(_), Token::Bang) => Err(Refusal::Wrong(PartFault::LeftOut(
+        (FormulaKind::Condition(_), HoaToken::Bang) => Err(PartRefusal::Wrong(PartFault::LeftOut(
             LeftOutName::NegatedSet,
             left,
         ))),
-        _ => Err(Refusal::Wrong(unexpected(token, left))),
+        _ => Err(PartRefusal::Wrong(unexpected(token, left))),
     }
 }
 
 /// Returns the reading after a token where the bracket after the number of a set must come.
 #[tactic(auto, unfolding(crate::specs::Mirrors::FormulaRun::closing_turn))]
-fn closing_turn(reading: Reading, op: Op, token: Token<'_>, left: usize) -> Result<Reading, Refusal>
+fn closing_turn(
+    reading: FormulaReading,
+    op: Op,
+    token: HoaToken<'_>,
+    left: usize,
+) -> Result<FormulaReading, PartRefusal>
     ensures { Gives view result (closing_turn (view reading) op (lexeme token.entry)) }
 {
     match token {
-        Token::RightParen => operand(reading, op),
-        _ => Err(Refusal::Wrong(unexpected(token, left))),
+        HoaToken::RightParen => operand(reading, op),
+        _ => Err(PartRefusal::Wrong(unexpected(token, left))),
     }
 }
 
 /// Returns the reading after one more token, with `left` bytes left from it on.
 #[tactic(auto, unfolding(crate::specs::Mirrors::FormulaRun::turn_at))]
-fn turn(kind: Kind, reading: Reading, token: Token<'_>, left: usize) -> Result<Reading, Refusal>
+fn turn(
+    kind: FormulaKind,
+    reading: FormulaReading,
+    token: HoaToken<'_>,
+    left: usize,
+) -> Result<FormulaReading, PartRefusal>
     ensures { Gives view result (turn_at kind (view reading) (lexeme token.entry)) }
 {
     match reading.mode {
@@ -355,13 +379,13 @@ fn turn(kind: Kind, reading: Reading, token: Token<'_>, left: usize) -> Result<R
 
 /// Returns the token that was found, if it may belong to the formula.
 #[tactic(auto, unfolding(crate::specs::Mirrors::FormulaRun::taken_at, crate::specs::Mirrors::FormulaRun::goes_on_at))]
-fn taken<'a>(reading: &Reading, found: Option<Token<'a>>) -> Option<Token<'a>>
+fn taken<'a>(reading: &FormulaReading, found: Option<HoaToken<'a>>) -> Option<HoaToken<'a>>
     ensures { option_map lexeme result ≡ taken_at (view reading.now) (option_map lexeme found.entry) }
 {
     let token = found?;
     match reading.mode {
         Mode::Operator => match token {
-            Token::Ampersand | Token::Bar => Some(token),
+            HoaToken::Ampersand | HoaToken::Bar => Some(token),
             _ => {
                 if reading.outer.is_empty() {
                     None
@@ -376,7 +400,7 @@ fn taken<'a>(reading: &Reading, found: Option<Token<'a>>) -> Option<Token<'a>>
 
 /// Returns the operations of a formula that ends here, with `left` bytes left.
 #[tactic(auto, unfolding(crate::specs::Mirrors::FormulaRun::over_at))]
-fn over(reading: Reading, left: usize) -> Result<Vec<Op>, Refusal>
+fn over(reading: FormulaReading, left: usize) -> Result<Vec<Op>, PartRefusal>
     ensures { Gives (λ x. x.items) result (over_at (view reading)) }
 {
     let mut ops = reading.ops;
@@ -388,21 +412,25 @@ fn over(reading: Reading, left: usize) -> Result<Vec<Op>, Refusal>
             if reading.outer.is_empty() {
                 Ok(ops)
             } else {
-                Err(Refusal::Wrong(PartFault::Syntax(left)))
+                Err(PartRefusal::Wrong(PartFault::Syntax(left)))
             }
         }
-        _ => Err(Refusal::Wrong(PartFault::Syntax(left))),
+        _ => Err(PartRefusal::Wrong(PartFault::Syntax(left))),
     }
 }
 
 /// Reads the formula at the start, and returns its operations, operands before their operators, and the bytes after it.
 /// The formula ends before the first token that can't belong to it.
-pub fn read_formula(alloc: Global, kind: Kind, bytes: &[u8]) -> Result<(Vec<Op>, &[u8]), Refusal>
+pub fn read_formula(
+    alloc: Global,
+    kind: FormulaKind,
+    bytes: &[u8],
+) -> Result<(Vec<Op>, &[u8]), PartRefusal>
     ensures { Gives (λ x. (x.0.items, lex x.1.now)) result (ops_at kind (lex bytes.now)) }
 {
-    let mut reading = Reading {
+    let mut reading = FormulaReading {
         mode: Mode::Operand,
-        top: Frame {
+        top: Bracket {
             sum: false,
             product: false,
             nots: 0,

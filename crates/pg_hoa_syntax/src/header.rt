@@ -11,9 +11,9 @@ ghost use Rattle.pg_hoa_syntax.specs.Mirrors.HeaderScan.{is_name_byte, is_name, 
 ghost use Rattle.pg_hoa_syntax.specs.Mirrors.HeaderScan.{names_at, acceptance_at, controls_at, begins_low, other_at, header_at};
 ghost use Rattle.pg_hoa_syntax.specs.Mirrors.HeaderScan.{opening_at, version_at, headers_from, headers_at};
 
-use crate::fault::{LeftOutName, PartFault, Refusal};
-use crate::formula::{Kind, Op, read_formula};
-use crate::token::{Token, next_token, unexpected};
+use crate::fault::{LeftOutName, PartFault, PartRefusal};
+use crate::formula::{FormulaKind, Op, read_formula};
+use crate::token::{HoaToken, next_token, unexpected};
 use std::alloc::{AllocError, Global};
 
 /// The contents of the headers. A number that may be out of range comes with the number of bytes left from it on.
@@ -27,7 +27,7 @@ pub struct Head {
 }
 
 /// Returns the fault where another token must come, at the token that was found or at the end of the text.
-fn misplaced(found: Option<Token<'_>>, left: usize) -> PartFault {
+fn misplaced(found: Option<HoaToken<'_>>, left: usize) -> PartFault {
     match found {
         Some(token) => unexpected(token, left),
         None => PartFault::Syntax(left),
@@ -35,53 +35,53 @@ fn misplaced(found: Option<Token<'_>>, left: usize) -> PartFault {
 }
 
 /// Returns the number, if one was found.
-fn number(found: Option<Token<'_>>) -> Option<u32>
+fn number(found: Option<HoaToken<'_>>) -> Option<u32>
     ensures { result ≡ numeral_of (option_map lexeme found.entry) }
 {
     match found {
-        Some(Token::Number(n)) => Some(n),
+        Some(HoaToken::Number(n)) => Some(n),
         _ => None,
     }
 }
 
 /// Whether the token that was found can be a value of a header that is skipped.
-fn is_value(found: Option<Token<'_>>) -> bool
+fn is_value(found: Option<HoaToken<'_>>) -> bool
     ensures { result ≡ is_value (option_map lexeme found.entry) }
 {
     match found {
-        Some(Token::Number(_)) => true,
-        Some(Token::Identifier(_)) => true,
-        Some(Token::String(_)) => true,
+        Some(HoaToken::Number(_)) => true,
+        Some(HoaToken::Identifier(_)) => true,
+        Some(HoaToken::String(_)) => true,
         _ => false,
     }
 }
 
 /// Reads a number of at most `limit`, and returns it with the number of bytes left from it on and the bytes after it.
 #[tactic(auto, unfolding(crate::specs::Mirrors::HeaderScan::numeral_at))]
-fn read_number(limit: u32, bytes: &[u8]) -> Result<(u32, usize, &[u8]), Refusal>
+fn read_number(limit: u32, bytes: &[u8]) -> Result<(u32, usize, &[u8]), PartRefusal>
     ensures { Gives (λ x. (x.0, lex x.2.now)) result (numeral_at limit (lex bytes.now)) }
 {
     let (found, left, rest) = next_token(bytes)?;
     match number(found) {
         Some(n) => {
             if n > limit {
-                Err(Refusal::Wrong(PartFault::TooLarge))
+                Err(PartRefusal::Wrong(PartFault::TooLarge))
             } else {
                 Ok((n, left, rest))
             }
         }
-        None => Err(Refusal::Wrong(misplaced(found, left))),
+        None => Err(PartRefusal::Wrong(misplaced(found, left))),
     }
 }
 
 /// Returns the bytes after the number of `Start:` as they are, unless they begin with an `&`, which it refuses.
 #[tactic(auto, unfolding(crate::specs::Mirrors::HeaderScan::alone_at))]
-fn alone(bytes: &[u8]) -> Result<&[u8], Refusal>
+fn alone(bytes: &[u8]) -> Result<&[u8], PartRefusal>
     ensures { Gives (λ x. lex x.now) result (alone_at (lex bytes.now)) }
 {
     let (found, left, _) = next_token(bytes)?;
     match found {
-        Some(Token::Ampersand) => Err(Refusal::Wrong(PartFault::LeftOut(
+        Some(HoaToken::Ampersand) => Err(PartRefusal::Wrong(PartFault::LeftOut(
             LeftOutName::Universal,
             left,
         ))),
@@ -110,7 +110,7 @@ fn note(numbers: &mut Vec<(u32, usize)>, number: u32, left: usize) -> Result<(),
 
 /// Reads numbers up to another token. Returns them as `note` keeps them, each with the number of bytes left from its
 /// first occurrence on, and the bytes after them.
-fn read_numbers(alloc: Global, bytes: &[u8]) -> Result<(Vec<(u32, usize)>, &[u8]), Refusal>
+fn read_numbers(alloc: Global, bytes: &[u8]) -> Result<(Vec<(u32, usize)>, &[u8]), PartRefusal>
     ensures { Gives (λ x. (map (λ y. y.0) x.0.items, lex x.1.now)) result (noted_at (lex bytes.now)) }
 {
     let mut numbers = Vec::new(alloc);
@@ -128,7 +128,7 @@ fn read_numbers(alloc: Global, bytes: &[u8]) -> Result<(Vec<(u32, usize)>, &[u8]
 }
 
 /// Returns the bytes after the values of a header that is skipped.
-fn skip_values(bytes: &[u8]) -> Result<&[u8], Refusal>
+fn skip_values(bytes: &[u8]) -> Result<&[u8], PartRefusal>
     ensures { Gives (λ x. lex x.now) result (skipped_from (lex bytes.now)) }
 {
     let mut rest = bytes;
@@ -197,27 +197,27 @@ fn is_name(name: &[u8]) -> bool
 fn name_in(
     alloc: Global,
     proposition: u32,
-    found: Option<Token<'_>>,
+    found: Option<HoaToken<'_>>,
     left: usize,
-) -> Result<Vec<u8>, Refusal>
+) -> Result<Vec<u8>, PartRefusal>
     ensures { Gives (λ v. v.items) result (quoted_of (option_map lexeme found.entry)) }
 {
     match found {
-        Some(Token::String(content)) => {
+        Some(HoaToken::String(content)) => {
             let name = unescaped(alloc, content)?;
             if is_name(&name) {
                 Ok(name)
             } else {
-                Err(Refusal::Wrong(PartFault::BadName(proposition)))
+                Err(PartRefusal::Wrong(PartFault::BadName(proposition)))
             }
         }
-        _ => Err(Refusal::Wrong(misplaced(found, left))),
+        _ => Err(PartRefusal::Wrong(misplaced(found, left))),
     }
 }
 
 /// Reads the name of the proposition with this number, and returns it with the bytes after it.
 #[tactic(auto, unfolding(crate::specs::Mirrors::HeaderScan::quoted_at))]
-fn read_name(alloc: Global, proposition: u32, bytes: &[u8]) -> Result<(Vec<u8>, &[u8]), Refusal>
+fn read_name(alloc: Global, proposition: u32, bytes: &[u8]) -> Result<(Vec<u8>, &[u8]), PartRefusal>
     ensures { Gives (λ x. (x.0.items, lex x.1.now)) result (quoted_at (lex bytes.now)) }
 {
     let (found, left, rest) = next_token(bytes)?;
@@ -225,7 +225,7 @@ fn read_name(alloc: Global, proposition: u32, bytes: &[u8]) -> Result<(Vec<u8>, 
 }
 
 /// Reads `count` names, and returns them with the bytes after them.
-fn read_names(alloc: Global, count: u32, bytes: &[u8]) -> Result<(Vec<Vec<u8>>, &[u8]), Refusal>
+fn read_names(alloc: Global, count: u32, bytes: &[u8]) -> Result<(Vec<Vec<u8>>, &[u8]), PartRefusal>
     ensures { Gives (λ x. (map (λ name. name.items) x.0.items, lex x.1.now)) result
         (names_from count [] (lex bytes.now)) }
 {
@@ -242,11 +242,11 @@ fn read_names(alloc: Global, count: u32, bytes: &[u8]) -> Result<(Vec<Vec<u8>>, 
 /// Reads the value of the header `States:`, whose name is `left` bytes before the end, into the head. Returns the bytes
 /// after it.
 #[tactic(auto, unfolding(crate::specs::Mirrors::HeaderScan::states_at))]
-fn states<'a>(head: &mut Head, left: usize, bytes: &'a [u8]) -> Result<&'a [u8], Refusal>
+fn states<'a>(head: &mut Head, left: usize, bytes: &'a [u8]) -> Result<&'a [u8], PartRefusal>
     ensures { Gives (λ x. (head_in head.new, lex x.now)) result (states_at (head_in head.old) (lex bytes.now)) }
 {
     if head.states.is_some() {
-        return Err(Refusal::Wrong(PartFault::Syntax(left)));
+        return Err(PartRefusal::Wrong(PartFault::Syntax(left)));
     }
     let (count, _, rest) = read_number(65_535, bytes)?;
     head.states = Some(count);
@@ -256,11 +256,11 @@ fn states<'a>(head: &mut Head, left: usize, bytes: &'a [u8]) -> Result<&'a [u8],
 /// Reads the value of the header `Start:`, whose name is `left` bytes before the end, into the head. Returns the bytes
 /// after it.
 #[tactic(auto, unfolding(crate::specs::Mirrors::HeaderScan::start_at))]
-fn start<'a>(head: &mut Head, left: usize, bytes: &'a [u8]) -> Result<&'a [u8], Refusal>
+fn start<'a>(head: &mut Head, left: usize, bytes: &'a [u8]) -> Result<&'a [u8], PartRefusal>
     ensures { Gives (λ x. (head_in head.new, lex x.now)) result (start_at (head_in head.old) (lex bytes.now)) }
 {
     if head.start.is_some() {
-        return Err(Refusal::Wrong(PartFault::LeftOut(LeftOutName::SeveralStarts, left)));
+        return Err(PartRefusal::Wrong(PartFault::LeftOut(LeftOutName::SeveralStarts, left)));
     }
     let (state, place, rest) = read_number(65_534, bytes)?;
     let rest = alone(rest)?;
@@ -276,11 +276,11 @@ fn names<'a>(
     head: &mut Head,
     left: usize,
     bytes: &'a [u8],
-) -> Result<&'a [u8], Refusal>
+) -> Result<&'a [u8], PartRefusal>
     ensures { Gives (λ x. (head_in head.new, lex x.now)) result (names_at (head_in head.old) (lex bytes.now)) }
 {
     if head.names.is_some() {
-        return Err(Refusal::Wrong(PartFault::Syntax(left)));
+        return Err(PartRefusal::Wrong(PartFault::Syntax(left)));
     }
     let (count, _, rest) = read_number(16, bytes)?;
     let (names, rest) = read_names(alloc, count, rest)?;
@@ -296,14 +296,14 @@ fn acceptance<'a>(
     head: &mut Head,
     left: usize,
     bytes: &'a [u8],
-) -> Result<&'a [u8], Refusal>
+) -> Result<&'a [u8], PartRefusal>
     ensures { Gives (λ x. (head_in head.new, lex x.now)) result (acceptance_at (head_in head.old) (lex bytes.now)) }
 {
     if head.acceptance.is_some() {
-        return Err(Refusal::Wrong(PartFault::Syntax(left)));
+        return Err(PartRefusal::Wrong(PartFault::Syntax(left)));
     }
     let (sets, _, rest) = read_number(4_096, bytes)?;
-    let (ops, rest) = read_formula(alloc, Kind::Condition(sets), rest)?;
+    let (ops, rest) = read_formula(alloc, FormulaKind::Condition(sets), rest)?;
     head.acceptance = Some((sets, ops));
     Ok(rest)
 }
@@ -316,11 +316,11 @@ fn controls<'a>(
     head: &mut Head,
     left: usize,
     bytes: &'a [u8],
-) -> Result<&'a [u8], Refusal>
+) -> Result<&'a [u8], PartRefusal>
     ensures { Gives (λ x. (head_in head.new, lex x.now)) result (controls_at (head_in head.old) (lex bytes.now)) }
 {
     if head.controls.is_some() {
-        return Err(Refusal::Wrong(PartFault::Syntax(left)));
+        return Err(PartRefusal::Wrong(PartFault::Syntax(left)));
     }
     let (controls, rest) = read_numbers(alloc, bytes)?;
     head.controls = Some(controls);
@@ -339,15 +339,15 @@ fn begins_low(name: &[u8]) -> bool
 
 /// Skips the values of a header with any other name and returns the bytes after them, or refuses the header.
 #[tactic(auto, unfolding(crate::specs::Mirrors::HeaderScan::other_at))]
-fn other<'a>(name: &[u8], left: usize, bytes: &'a [u8]) -> Result<&'a [u8], Refusal>
+fn other<'a>(name: &[u8], left: usize, bytes: &'a [u8]) -> Result<&'a [u8], PartRefusal>
     ensures { (h : KeptHead) → Gives (λ x. (h, lex x.now)) result (other_at h name.now (lex bytes.now)) }
 {
     if begins_low(name) {
         skip_values(bytes)
     } else if name == b"Alias".as_slice() {
-        Err(Refusal::Wrong(PartFault::LeftOut(LeftOutName::Alias, left)))
+        Err(PartRefusal::Wrong(PartFault::LeftOut(LeftOutName::Alias, left)))
     } else {
-        Err(Refusal::Wrong(PartFault::UnknownHeader(left)))
+        Err(PartRefusal::Wrong(PartFault::UnknownHeader(left)))
     }
 }
 
@@ -360,7 +360,7 @@ fn header<'a>(
     name: &[u8],
     left: usize,
     bytes: &'a [u8],
-) -> Result<&'a [u8], Refusal>
+) -> Result<&'a [u8], PartRefusal>
     ensures { Gives (λ x. (head_in head.new, lex x.now)) result
         (header_at (head_in head.old) name.now (lex bytes.now)) }
 {
@@ -381,25 +381,25 @@ fn header<'a>(
 
 /// Reads `HOA:`, and returns the bytes after it.
 #[tactic(auto, unfolding(crate::specs::Mirrors::HeaderScan::opening_at))]
-pub fn opening(bytes: &[u8]) -> Result<&[u8], Refusal>
+pub fn opening(bytes: &[u8]) -> Result<&[u8], PartRefusal>
     ensures { Gives (λ x. lex x.now) result (opening_at (lex bytes.now)) }
 {
     let (found, left, rest) = next_token(bytes)?;
     match found {
-        Some(Token::Header(name)) if name == b"HOA".as_slice() => Ok(rest),
-        _ => Err(Refusal::Wrong(misplaced(found, left))),
+        Some(HoaToken::Header(name)) if name == b"HOA".as_slice() => Ok(rest),
+        _ => Err(PartRefusal::Wrong(misplaced(found, left))),
     }
 }
 
 /// Reads `v1`, and returns the bytes after it.
 #[tactic(auto, unfolding(crate::specs::Mirrors::HeaderScan::version_at))]
-pub fn version(bytes: &[u8]) -> Result<&[u8], Refusal>
+pub fn version(bytes: &[u8]) -> Result<&[u8], PartRefusal>
     ensures { Gives (λ x. lex x.now) result (version_at (lex bytes.now)) }
 {
     let (found, left, rest) = next_token(bytes)?;
     match found {
-        Some(Token::Identifier(word)) if word == b"v1".as_slice() => Ok(rest),
-        _ => Err(Refusal::Wrong(misplaced(found, left))),
+        Some(HoaToken::Identifier(word)) if word == b"v1".as_slice() => Ok(rest),
+        _ => Err(PartRefusal::Wrong(misplaced(found, left))),
     }
 }
 
@@ -409,7 +409,7 @@ fn headers<'a>(
     alloc: Global,
     head: &mut Head,
     bytes: &'a [u8],
-) -> Result<(usize, &'a [u8]), Refusal>
+) -> Result<(usize, &'a [u8]), PartRefusal>
     ensures { Gives (λ x. (head_in head.new, lex x.1.now)) result
         (headers_from (head_in head.old) (lex bytes.now)) }
 {
@@ -418,11 +418,11 @@ fn headers<'a>(
         let (found, left, after) = next_token(rest)?;
         match found {
             Some(token) => match token {
-                Token::Body => return Ok((left, after)),
-                Token::Header(name) => rest = header(alloc, head, name, left, after)?,
-                _ => return Err(Refusal::Wrong(unexpected(token, left))),
+                HoaToken::Body => return Ok((left, after)),
+                HoaToken::Header(name) => rest = header(alloc, head, name, left, after)?,
+                _ => return Err(PartRefusal::Wrong(unexpected(token, left))),
             },
-            None => return Err(Refusal::Wrong(PartFault::Syntax(left))),
+            None => return Err(PartRefusal::Wrong(PartFault::Syntax(left))),
         }
     }
 }
@@ -430,7 +430,7 @@ fn headers<'a>(
 /// Reads the headers from the first byte up to `--BODY--`. Returns their contents, the number of bytes left from
 /// `--BODY--` on, and the bytes after it.
 #[tactic(auto, unfolding(crate::specs::Mirrors::HeaderScan::headers_at))]
-pub fn read_headers(alloc: Global, bytes: &[u8]) -> Result<(Head, usize, &[u8]), Refusal>
+pub fn read_headers(alloc: Global, bytes: &[u8]) -> Result<(Head, usize, &[u8]), PartRefusal>
     ensures { Gives (λ x. (head_in x.0, lex x.2.now)) result (headers_at (lex bytes.now)) }
 {
     let first = version(opening(bytes)?)?;

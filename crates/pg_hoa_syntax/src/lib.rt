@@ -11,8 +11,8 @@ mod shape;
 mod syntax;
 mod token;
 
-pub use body::{Edge, ReadState};
-pub use fault::{LeftOutName, PartFault, Refusal};
+pub use body::{ReadEdge, ReadState};
+pub use fault::{LeftOutName, PartFault, PartRefusal};
 pub use formula::Op;
 pub use naming::{has_header, with_controls};
 pub use syntax::{Syntax, read_syntax};

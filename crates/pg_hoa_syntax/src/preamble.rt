@@ -5,7 +5,7 @@ ghost use Rattle.std.specs.List.{All};
 ghost use Rattle.pg_hoa_syntax.specs.Mirrors.Kept.{head_in};
 ghost use Rattle.pg_hoa_syntax.specs.Mirrors.Preambles.{preamble_in, IsPreambleOf, HasCondition, HasNoPreamble, StartsBelow, marked};
 
-use crate::fault::{LeftOutName, PartFault, Refusal};
+use crate::fault::{LeftOutName, PartFault, PartRefusal};
 use crate::header::{Head, is_noted};
 use crate::shape::shape_of;
 use pg_hoa_automaton::Shape;
@@ -50,7 +50,7 @@ fn first_above(controls: &[(u32, usize)], count: usize) -> Option<usize>
 /// Returns the contents of the headers, where `left` bytes are left from `--BODY--` on. It refuses, in this order,
 /// headers without a condition, headers without a start, a start that isn't below the number of states, a proposition
 /// of the controller that isn't below the number of propositions, and a condition of none of the six shapes.
-pub fn preamble_of(alloc: Global, head: Head, left: usize) -> Result<Preamble, Refusal>
+pub fn preamble_of(alloc: Global, head: Head, left: usize) -> Result<Preamble, PartRefusal>
     requires { HasCondition (head_in head).acceptance }
     ensures found { IfOk result (λ s. IsPreambleOf (head_in head) (preamble_in s)) }
     ensures refused { IfErr result (HasNoPreamble (head_in head)) }
@@ -63,23 +63,23 @@ pub fn preamble_of(alloc: Global, head: Head, left: usize) -> Result<Preamble, R
         acceptance,
     } = head;
     let Some((sets, condition)) = acceptance else {
-        return Err(Refusal::Wrong(PartFault::Syntax(left)));
+        return Err(PartRefusal::Wrong(PartFault::Syntax(left)));
     };
     let Some((start, start_left)) = start else {
-        return Err(Refusal::Wrong(PartFault::LeftOut(LeftOutName::NoStart, left)));
+        return Err(PartRefusal::Wrong(PartFault::LeftOut(LeftOutName::NoStart, left)));
     };
     if !starts_below(start, states) {
-        return Err(Refusal::Wrong(PartFault::OutOfRange(start_left)));
+        return Err(PartRefusal::Wrong(PartFault::OutOfRange(start_left)));
     }
     let names = names.unwrap_or(Vec::new(alloc));
     let controls = controls.unwrap_or(Vec::new(alloc));
     let count = names.len();
     if let Some(left) = first_above(&controls, count) {
-        return Err(Refusal::Wrong(PartFault::OutOfRange(left)));
+        return Err(PartRefusal::Wrong(PartFault::OutOfRange(left)));
     }
     let controllable = marked(alloc, &controls, count)?;
     let Some(shape) = shape_of(&condition, sets) else {
-        return Err(Refusal::Wrong(PartFault::NotParity));
+        return Err(PartRefusal::Wrong(PartFault::NotParity));
     };
     Ok(Preamble {
         states,

@@ -8,10 +8,10 @@ ghost use Rattle.pg_hoa_syntax.specs.Mirrors.Preambles.{preamble_in, nothing_at}
 ghost use Rattle.pg_hoa_syntax.specs.Mirrors.Readings.{bound, state_count, Reads, NeverReads, IsSyntaxOf, SaysNothing};
 
 use crate::body::{Ranges, ReadState, read_body};
-use crate::fault::{LeftOutName, PartFault, Refusal};
+use crate::fault::{LeftOutName, PartFault, PartRefusal};
 use crate::header::read_headers;
 use crate::preamble::{Preamble, preamble_of};
-use crate::token::{Token, next_token};
+use crate::token::{HoaToken, next_token};
 use pg_hoa_automaton::Shape;
 use std::alloc::Global;
 
@@ -32,14 +32,14 @@ pub struct Syntax {
 /// Reads a text within the limits of automata: at most 65,535 states, 16 propositions, 4,096 sets, and 16,777,216
 /// states times letters. It doesn't check whether the edges agree. It fails with `Wrong` only if the text says no
 /// automaton within these limits, deterministic or not, and with `Memory` if memory runs out.
-pub fn read_syntax(alloc: Global, bytes: &[u8]) -> Result<Syntax, Refusal>
+pub fn read_syntax(alloc: Global, bytes: &[u8]) -> Result<Syntax, PartRefusal>
     ensures found { IfOk result (IsSyntaxOf bytes.now) }
     ensures refused { IfErr result (SaysNothing bytes.now) }
 {
     let (preamble, lines) = parts(alloc, bytes)?;
     let states = states_of(&preamble, &lines);
     if !are_few(states, preamble.names.len() as u32) {
-        return Err(Refusal::Wrong(PartFault::TooLarge));
+        return Err(PartRefusal::Wrong(PartFault::TooLarge));
     }
     Ok(Syntax {
         states,
@@ -53,7 +53,7 @@ pub fn read_syntax(alloc: Global, bytes: &[u8]) -> Result<Syntax, Refusal>
 }
 
 /// Reads the headers of a text and its lines.
-fn parts(alloc: Global, bytes: &[u8]) -> Result<(Preamble, Vec<ReadState>), Refusal>
+fn parts(alloc: Global, bytes: &[u8]) -> Result<(Preamble, Vec<ReadState>), PartRefusal>
     ensures found { IfOk result (λ x. (h : KeptHead) × Reads (lex bytes.now) h (preamble_in x.0) (map line_in x.1.items)) }
     ensures refused { IfErr result (NeverReads (lex bytes.now)) }
 {
@@ -79,17 +79,17 @@ fn ranges(preamble: &Preamble) -> Ranges
 }
 
 /// Refuses anything but white space and comments after the end.
-fn end(bytes: &[u8]) -> Result<(), Refusal>
+fn end(bytes: &[u8]) -> Result<(), PartRefusal>
     ensures { Gives (λ _. 0) result (nothing_at (lex bytes.now)) }
 {
     let (token, left, _) = next_token(bytes)?;
     match token {
         None => Ok(()),
-        Some(Token::Header(b"HOA")) => Err(Refusal::Wrong(PartFault::LeftOut(
+        Some(HoaToken::Header(b"HOA")) => Err(PartRefusal::Wrong(PartFault::LeftOut(
             LeftOutName::SeveralAutomata,
             left,
         ))),
-        Some(_) => Err(Refusal::Wrong(PartFault::Syntax(left))),
+        Some(_) => Err(PartRefusal::Wrong(PartFault::Syntax(left))),
     }
 }
 

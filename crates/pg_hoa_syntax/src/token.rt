@@ -8,11 +8,11 @@ ghost use Rattle.pg_hoa_syntax.specs.Mirrors.Steps.{Gives};
 ghost use Rattle.pg_hoa_syntax.specs.Mirrors.Scan.{lexeme, gap_from, gap_step, number_at, name_at, character_at, string_len, string_at};
 ghost use Rattle.pg_hoa_syntax.specs.Mirrors.Scan.{alias_at, mark_at, sign_at, solid_at, lex, first};
 
-use crate::fault::{LeftOutName, PartFault, Refusal};
+use crate::fault::{LeftOutName, PartFault, PartRefusal};
 
 /// A token, which borrows the text.
 #[derive(Clone, Copy)]
-pub enum Token<'a> {
+pub enum HoaToken<'a> {
     /// Decimal digits.
     Number(u32),
     Identifier(&'a [u8]),
@@ -92,59 +92,59 @@ fn value_of(digits: &[u8]) -> Option<u32>
 
 /// Reads the number at the start, and returns it with the bytes after it.
 #[tactic(auto, using(pg_list_lemmas::proofs::Runs::run_within), unfolding(crate::specs::Mirrors::Scan::number_at))]
-fn number(bytes: &[u8]) -> Result<(Token<'_>, &[u8]), Refusal>
+fn number(bytes: &[u8]) -> Result<(HoaToken<'_>, &[u8]), PartRefusal>
     ensures { Gives (λ x. (lexeme x.0, x.1.now)) result (number_at bytes.now) }
 {
     let (digits, rest) = bytes.split_at(digits(bytes));
     match value_of(digits) {
-        Some(value) => Ok((Token::Number(value), rest)),
-        None => Err(Refusal::Wrong(PartFault::TooLarge)),
+        Some(value) => Ok((HoaToken::Number(value), rest)),
+        None => Err(PartRefusal::Wrong(PartFault::TooLarge)),
     }
 }
 
 /// Reads the identifier at the start, or the header name with its colon, and returns it with the bytes after it.
 #[tactic(auto, using(pg_list_lemmas::proofs::Runs::run_within), unfolding(crate::specs::Mirrors::Scan::name_at))]
-fn name(bytes: &[u8]) -> Result<(Token<'_>, &[u8]), Refusal>
+fn name(bytes: &[u8]) -> Result<(HoaToken<'_>, &[u8]), PartRefusal>
     ensures { Gives (λ x. (lexeme x.0, x.1.now)) result (name_at bytes.now) }
 {
     let (name, rest) = bytes.split_at(inner(bytes));
     match rest {
-        [b':', after @ ..] => Ok((Token::Header(name), after)),
-        _ => Ok((Token::Identifier(name), rest)),
+        [b':', after @ ..] => Ok((HoaToken::Header(name), after)),
+        _ => Ok((HoaToken::Identifier(name), rest)),
     }
 }
 
 /// Reads the alias whose `@` comes right before `bytes`, with `left` bytes left from the `@` on. Returns the alias and
 /// the bytes after it.
 #[tactic(auto, using(pg_list_lemmas::proofs::Runs::run_within), unfolding(crate::specs::Mirrors::Scan::alias_at))]
-fn alias(bytes: &[u8], left: usize) -> Result<(Token<'_>, &[u8]), Refusal>
+fn alias(bytes: &[u8], left: usize) -> Result<(HoaToken<'_>, &[u8]), PartRefusal>
     ensures { Gives (λ x. (lexeme x.0, x.1.now)) result (alias_at bytes.now) }
 {
     let len = inner(bytes);
     if len == 0 {
-        return Err(Refusal::Wrong(PartFault::Syntax(left)));
+        return Err(PartRefusal::Wrong(PartFault::Syntax(left)));
     }
     let (name, rest) = bytes.split_at(len);
-    Ok((Token::Alias(name), rest))
+    Ok((HoaToken::Alias(name), rest))
 }
 
 /// Reads the token of one byte that comes right before `rest`, with `left` bytes left from it on. Returns the token and
 /// `rest`.
 #[tactic(auto, unfolding(crate::specs::Mirrors::Scan::sign_at))]
-fn sign(byte: u8, rest: &[u8], left: usize) -> Result<(Token<'_>, &[u8]), Refusal>
+fn sign(byte: u8, rest: &[u8], left: usize) -> Result<(HoaToken<'_>, &[u8]), PartRefusal>
     ensures { Gives (λ x. (lexeme x.0, x.1.now)) result (sign_at byte rest.now) }
 {
     match byte {
-        b'[' => Ok((Token::LeftBracket, rest)),
-        b']' => Ok((Token::RightBracket, rest)),
-        b'{' => Ok((Token::LeftBrace, rest)),
-        b'}' => Ok((Token::RightBrace, rest)),
-        b'(' => Ok((Token::LeftParen, rest)),
-        b')' => Ok((Token::RightParen, rest)),
-        b'!' => Ok((Token::Bang, rest)),
-        b'&' => Ok((Token::Ampersand, rest)),
-        b'|' => Ok((Token::Bar, rest)),
-        _ => Err(Refusal::Wrong(PartFault::Syntax(left))),
+        b'[' => Ok((HoaToken::LeftBracket, rest)),
+        b']' => Ok((HoaToken::RightBracket, rest)),
+        b'{' => Ok((HoaToken::LeftBrace, rest)),
+        b'}' => Ok((HoaToken::RightBrace, rest)),
+        b'(' => Ok((HoaToken::LeftParen, rest)),
+        b')' => Ok((HoaToken::RightParen, rest)),
+        b'!' => Ok((HoaToken::Bang, rest)),
+        b'&' => Ok((HoaToken::Ampersand, rest)),
+        b'|' => Ok((HoaToken::Bar, rest)),
+        _ => Err(PartRefusal::Wrong(PartFault::Syntax(left))),
     }
 }
 
@@ -164,7 +164,7 @@ fn outside_comments(bytes: &[u8]) -> Option<(u32, &[u8])>
 /// Takes a part of the comments, `deep` of which are open, with `outermost` bytes left from the `/*` of the outermost
 /// one on. Returns the number of comments that are open after this part and the bytes after it.
 #[tactic(auto, unfolding(crate::specs::Mirrors::Scan::gap_step))]
-fn inside_comments(deep: u32, outermost: usize, bytes: &[u8]) -> Result<(u32, &[u8]), Refusal>
+fn inside_comments(deep: u32, outermost: usize, bytes: &[u8]) -> Result<(u32, &[u8]), PartRefusal>
     requires some_open { 0 < deep }
     requires few { deep ≤ 8192 }
     ensures { Gives (λ x. Some (x.0, x.1.now)) result (gap_step deep bytes.now) }
@@ -174,19 +174,19 @@ fn inside_comments(deep: u32, outermost: usize, bytes: &[u8]) -> Result<(u32, &[
             if deep < 8192 {
                 Ok((deep + 1, after))
             } else {
-                Err(Refusal::Wrong(PartFault::TooLarge))
+                Err(PartRefusal::Wrong(PartFault::TooLarge))
             }
         }
         [b'*', b'/', after @ ..] => Ok((deep - 1, after)),
         [_, after @ ..] if !after.is_empty() => Ok((deep, after)),
-        _ => Err(Refusal::Wrong(PartFault::Syntax(outermost))),
+        _ => Err(PartRefusal::Wrong(PartFault::Syntax(outermost))),
     }
 }
 
 /// Takes one blank or a part of the comments, `deep` of which are open, with `outermost` bytes left from the outermost
 /// one on. Returns the number of comments that are open after it and the bytes after it, or None at a token or the end
 /// of the text.
-fn blank(deep: u32, outermost: usize, bytes: &[u8]) -> Result<Option<(u32, &[u8])>, Refusal>
+fn blank(deep: u32, outermost: usize, bytes: &[u8]) -> Result<Option<(u32, &[u8])>, PartRefusal>
     requires { deep ≤ 8192 }
     ensures { Gives (λ x. option_map (λ y. (y.0, y.1.now)) x) result (gap_step deep bytes.now) }
 {
@@ -198,7 +198,7 @@ fn blank(deep: u32, outermost: usize, bytes: &[u8]) -> Result<Option<(u32, &[u8]
 }
 
 /// Skips white space and comments, and returns the bytes after them.
-fn blanks(bytes: &[u8]) -> Result<&[u8], Refusal>
+fn blanks(bytes: &[u8]) -> Result<&[u8], PartRefusal>
     ensures { Gives (λ x. x.now) result (gap_from 0 bytes.now) }
 {
     let mut deep = 0u32;
@@ -220,29 +220,29 @@ fn blanks(bytes: &[u8]) -> Result<&[u8], Refusal>
 
 /// Reads the mark at the start, which begins with a `-`, and returns it with the bytes after it.
 #[tactic(auto, unfolding(crate::specs::Mirrors::Scan::mark_at))]
-fn mark(bytes: &[u8]) -> Result<(Token<'_>, &[u8]), Refusal>
+fn mark(bytes: &[u8]) -> Result<(HoaToken<'_>, &[u8]), PartRefusal>
     ensures { Gives (λ x. (lexeme x.0, x.1.now)) result (mark_at bytes.now) }
 {
     if let Some(rest) = bytes.strip_prefix(b"--BODY--") {
-        Ok((Token::Body, rest))
+        Ok((HoaToken::Body, rest))
     } else if let Some(rest) = bytes.strip_prefix(b"--END--") {
-        Ok((Token::End, rest))
+        Ok((HoaToken::End, rest))
     } else if let Some(rest) = bytes.strip_prefix(b"--ABORT--") {
-        Ok((Token::Abort, rest))
+        Ok((HoaToken::Abort, rest))
     } else {
-        Err(Refusal::Wrong(PartFault::Syntax(bytes.len())))
+        Err(PartRefusal::Wrong(PartFault::Syntax(bytes.len())))
     }
 }
 
 /// Reads the string whose first quote comes right before `bytes`, with `left` bytes left from the quote on. Returns the
 /// string and the bytes after it.
 #[tactic(auto, unfolding(crate::specs::Mirrors::Scan::string_at))]
-fn string(bytes: &[u8], left: usize) -> Result<(Token<'_>, &[u8]), Refusal>
+fn string(bytes: &[u8], left: usize) -> Result<(HoaToken<'_>, &[u8]), PartRefusal>
     ensures { Gives (λ x. (lexeme x.0, x.1.now)) result (string_at bytes.now) }
 {
     match string_len(bytes) {
-        Some(len) => Ok((Token::String(&bytes[..len]), &bytes[len + 1..])),
-        None => Err(Refusal::Wrong(PartFault::Syntax(left))),
+        Some(len) => Ok((HoaToken::String(&bytes[..len]), &bytes[len + 1..])),
+        None => Err(PartRefusal::Wrong(PartFault::Syntax(left))),
     }
 }
 
@@ -281,11 +281,11 @@ fn string_len(bytes: &[u8]) -> Option<usize>
 
 /// Reads the token at the start, where there is no blank, and returns it with the bytes after it.
 #[tactic(auto, unfolding(crate::specs::Mirrors::Scan::solid_at))]
-fn solid(bytes: &[u8]) -> Result<(Token<'_>, &[u8]), Refusal>
+fn solid(bytes: &[u8]) -> Result<(HoaToken<'_>, &[u8]), PartRefusal>
     ensures { Gives (λ x. (lexeme x.0, x.1.now)) result (solid_at bytes.now) }
 {
     match bytes {
-        [] => Err(Refusal::Wrong(PartFault::Syntax(0))),
+        [] => Err(PartRefusal::Wrong(PartFault::Syntax(0))),
         [one, ..] if is_digit(*one) => number(bytes),
         [one, ..] if is_letter(*one) || *one == b'_' => name(bytes),
         [b'"', rest @ ..] => string(rest, bytes.len()),
@@ -297,7 +297,7 @@ fn solid(bytes: &[u8]) -> Result<(Token<'_>, &[u8]), Refusal>
 
 /// Reads the next token, after blanks, and returns it with the number of bytes left from it on and the bytes after it.
 /// There is no token at the end of the text.
-pub fn next_token(bytes: &[u8]) -> Result<(Option<Token<'_>>, usize, &[u8]), Refusal>
+pub fn next_token(bytes: &[u8]) -> Result<(Option<HoaToken<'_>>, usize, &[u8]), PartRefusal>
     ensures { Gives (λ x. (option_map lexeme x.0, lex x.2.now)) result (first (lex bytes.now)) }
 {
     let bytes = blanks(bytes)?;
@@ -309,10 +309,10 @@ pub fn next_token(bytes: &[u8]) -> Result<(Option<Token<'_>>, usize, &[u8]), Ref
 }
 
 /// Returns the fault of a token that can't stand where it is, `left` bytes before the end.
-pub fn unexpected(token: Token<'_>, left: usize) -> PartFault {
+pub fn unexpected(token: HoaToken<'_>, left: usize) -> PartFault {
     match token {
-        Token::Alias(_) => PartFault::LeftOut(LeftOutName::Alias, left),
-        Token::Abort => PartFault::LeftOut(LeftOutName::Abort, left),
+        HoaToken::Alias(_) => PartFault::LeftOut(LeftOutName::Alias, left),
+        HoaToken::Abort => PartFault::LeftOut(LeftOutName::Abort, left),
         _ => PartFault::Syntax(left),
     }
 }

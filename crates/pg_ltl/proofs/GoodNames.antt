@@ -12,8 +12,8 @@ use Rattle.pg_list_lemmas.proofs.Runs.{run_each, run_first, run_some}
 use Rattle.pg_list_lemmas.specs.Bytes.{is_digit}
 use Rattle.pg_hoa_automaton.specs.Automata.{IsNameByte, IsPropositionName}
 use Rattle.pg_ltl.specs.declared.formula.Prefix.{Prefix}
-use Rattle.pg_ltl.specs.declared.token.Token.{Token}
-use Rattle.pg_ltl.specs.declared.token.Token.TheVariants.{Proposition, Constant, Before, Between, LeftParen, RightParen}
+use Rattle.pg_ltl.specs.declared.token.FormulaToken.{FormulaToken}
+use Rattle.pg_ltl.specs.declared.token.FormulaToken.TheVariants.{Proposition, Constant, Before, Between, LeftParen, RightParen}
 use Rattle.pg_ltl.specs.Formulas.{Formula, constant, proposition, bracket, one, two, SpeaksOf}
 use Rattle.pg_ltl.specs.FormulaTexts.{lexemes}
 use Rattle.pg_ltl.specs.Words.{Word, name, sign, is_start, is_inner, is_quoted, behind_blanks, word_or, reserved, bare_at, operator_of, makes_name}
@@ -41,7 +41,7 @@ all_more P Q (x ∷ xs) go all = (go x all.0, all_more P Q xs go all.1)
 -- ---- words
 
 -- a token that is no proposition
-abbrev IsOther : Token → Type 0
+abbrev IsOther : FormulaToken → Type 0
 IsOther (Proposition p) = ⊥
 IsOther t = Unit {0}
 
@@ -49,11 +49,11 @@ abbrev IsGood : Word → Type 0
 IsGood (name w) = IsPropositionName w
 IsGood (sign t) = IsOther t
 
-abbrev OthersIf : Option Token → Type 0
+abbrev OthersIf : Option FormulaToken → Type 0
 OthersIf None = Unit {0}
 OthersIf (Some t) = IsOther t
 
-abbrev OtherFirst : Option (Token × List ℕ) → Type 0
+abbrev OtherFirst : Option (FormulaToken × List ℕ) → Type 0
 OtherFirst None = Unit {0}
 OtherFirst (Some x) = IsOther x.0
 
@@ -73,7 +73,7 @@ reserved_other w =
     (if_so OthersIf (bytes_eq w (codes "R")) _ _ tt (if_so OthersIf (bytes_eq w (codes "V")) _ _ tt
     (if_so OthersIf (bytes_eq w (codes "W")) _ _ tt (if_so OthersIf (bytes_eq w (codes "M")) _ _ tt tt)))))))
 
-word_good : (w : List ℕ) (o : Option Token) → IsPropositionName w → OthersIf o → IsGood (word_or w o)
+word_good : (w : List ℕ) (o : Option FormulaToken) → IsPropositionName w → OthersIf o → IsGood (word_or w o)
 word_good w None good other = good
 word_good w (Some t) good other = other
 
@@ -120,7 +120,7 @@ quoted_good bytes =
       )
     ] refl
 
-behind_other : (b : ℕ) (t : Token) (bytes : List ℕ) → IsOther t → OtherFirst (behind b t bytes)
+behind_other : (b : ℕ) (t : FormulaToken) (bytes : List ℕ) → IsOther t → OtherFirst (behind b t bytes)
 unfolding behind
 behind_other b t [] other = tt
 behind_other b t (c ∷ rest) other = if_so OtherFirst (eqb c b) (Some (t, rest)) None other tt
@@ -138,7 +138,7 @@ single_other b =
     (if_so OthersIf (eqb b 48) _ _ tt (if_so OthersIf (eqb b 49) _ _ tt (if_so OthersIf (eqb b 59) _ _ tt
     (if_so OthersIf (eqb b 94) _ _ tt tt))))))
 
-with_rest : (rest : List ℕ) (o : Option Token) → OthersIf o → OtherFirst (option_map (λ t. (t, rest)) o)
+with_rest : (rest : List ℕ) (o : Option FormulaToken) → OthersIf o → OtherFirst (option_map (λ t. (t, rest)) o)
 with_rest rest None h = tt
 with_rest rest (Some t) h = h
 
@@ -149,7 +149,7 @@ sign_other b rest =
     (if_so OtherFirst (eqb b 45 || eqb b 61) _ _ (behind_other 62 _ rest tt) (if_so OtherFirst (eqb b 91) _ _ (behind_other 93 _ rest tt)
     (if_so OtherFirst (eqb b 60) _ _ (arrow_other rest) (with_rest rest (single b) (single_other b))))))
 
-signed_good : (o : Option (Token × List ℕ)) → OtherFirst o → GoodFirst (option_map (λ x. (sign x.0, x.1)) o)
+signed_good : (o : Option (FormulaToken × List ℕ)) → OtherFirst o → GoodFirst (option_map (λ x. (sign x.0, x.1)) o)
 signed_good None h = tt
 signed_good (Some x) h = h
 
@@ -173,11 +173,11 @@ spelt_good bytes (w ∷ words) spelt = (there_good (behind_blanks bytes) w spelt
 
 -- ---- names and tokens
 
-abbrev IsBelow : ℕ → Token → Type 0
+abbrev IsBelow : ℕ → FormulaToken → Type 0
 IsBelow names (Proposition p) = p < names
 IsBelow names t = Unit {0}
 
-below_more : (m n : ℕ) (t : Token) → m ≤ n → IsBelow m t → IsBelow n t
+below_more : (m n : ℕ) (t : FormulaToken) → m ≤ n → IsBelow m t → IsBelow n t
 below_more m n (Proposition p) le h = omega (arith, le, h)
 below_more m n (Constant b) le h = tt
 below_more m n (Before op) le h = tt
@@ -185,7 +185,7 @@ below_more m n (Between op) le h = tt
 below_more m n LeftParen le h = tt
 below_more m n RightParen le h = tt
 
-other_below : (n : ℕ) (t : Token) → IsOther t → IsBelow n t
+other_below : (n : ℕ) (t : FormulaToken) → IsOther t → IsBelow n t
 other_below n (Proposition p) h = absurd h
 other_below n (Constant b) h = tt
 other_below n (Before op) h = tt

@@ -4,7 +4,7 @@ pub mod Normality
 pub mod Nodes
 pub mod Pairs
 pub mod Machine
-pub mod Frames
+pub mod Pending
 pub mod Shown
 pub mod Turning
 pub mod Names

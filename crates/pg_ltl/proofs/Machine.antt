@@ -6,11 +6,11 @@ use Rattle.std.proofs.lemmas.Bool.{le-leb, leb-true, leb-false}
 use Rattle.pg_list_lemmas.proofs.Steps.{some_is, none_is_some}
 use Rattle.pg_ltl.specs.declared.formula.Infix.{Infix}
 use Rattle.pg_ltl.specs.declared.formula.Infix.TheVariants.{Implies, Equivalent, Or, Exclusive, And, Until, Release, Weak, Strong, Also}
-use Rattle.pg_ltl.specs.declared.token.Token.{Token}
-use Rattle.pg_ltl.specs.declared.token.Token.TheVariants as tokens
+use Rattle.pg_ltl.specs.declared.token.FormulaToken.{FormulaToken}
+use Rattle.pg_ltl.specs.declared.token.FormulaToken.TheVariants as tokens
 use Rattle.pg_ltl.specs.Formulas.{Formula, constant, proposition, bracket, one, two}
 use Rattle.pg_ltl.specs.FormulaTexts.{lexemes, text_lexemes, strength, rank, left_rank, right_rank, IsGrouped, AreTokensOf, BeginsOne, BeginsNone}
-use Rattle.pg_ltl.specs.Mirrors.Machine.{Frame, paren, ahead, left, State, due, over, completes, reduces, between, closed, step, whole}
+use Rattle.pg_ltl.specs.Mirrors.Machine.{Pending, paren, ahead, left, State, due, over, completes, reduces, between, closed, step, whole}
 use Rattle.pg_ltl.specs.Mirrors.Machine.{finish, run_if, run, steps_if, steps, parse}
 
 -- ---- how operators bind
@@ -47,13 +47,13 @@ left_at_most s h = grind arith
 -- ---- stacks
 
 -- a formula of the rank may stand behind these
-abbrev Accepts : List Frame → ℕ → Type 0
+abbrev Accepts : List Pending → ℕ → Type 0
 Accepts [] r = Unit {0}
 Accepts (paren ∷ stack) r = 1 ≤ r
 Accepts (ahead op ∷ stack) r = 8 ≤ r
 Accepts (left op f ∷ stack) r = right_rank op ≤ r
 
-accepts_top : (stack : List Frame) (r : ℕ) → 8 ≤ r → Accepts stack r
+accepts_top : (stack : List Pending) (r : ℕ) → 8 ≤ r → Accepts stack r
 accepts_top [] r h = tt
 accepts_top (paren ∷ stack) r h = omega (arith, h)
 accepts_top (ahead op ∷ stack) r h = h
@@ -64,13 +64,13 @@ accepts_top (left op f ∷ stack) r h =
 -- ---- what is written is read
 
 -- what may follow a formula of the rank
-abbrev Follows : ℕ → List Token → Type 0
+abbrev Follows : ℕ → List FormulaToken → Type 0
 Follows r [] = Unit {0}
 Follows r (tokens.Between op ∷ ts) = left_rank op ≤ r
 Follows r (tokens.RightParen ∷ ts) = 1 ≤ r
 Follows r (t ∷ ts) = Unit {0}
 
-follows_more : (r s : ℕ) (ts : List Token) → r ≤ s → Follows r ts → Follows s ts
+follows_more : (r s : ℕ) (ts : List FormulaToken) → r ≤ s → Follows r ts → Follows s ts
 follows_more r s [] le h = tt
 follows_more r s (tokens.Between op ∷ ts) le h = omega (arith, le, h)
 follows_more r s (tokens.RightParen ∷ ts) le h = omega (arith, le, h)
@@ -80,7 +80,7 @@ follows_more r s (tokens.Constant b ∷ ts) le h = tt
 follows_more r s (tokens.Proposition p ∷ ts) le h = tt
 
 -- an operator that waits takes its right operand before what follows
-absorbed : (op : Infix) (f g : Formula) (stack : List Frame) (ts : List Token) → Follows (strength op) ts
+absorbed : (op : Infix) (f g : Formula) (stack : List Pending) (ts : List FormulaToken) → Follows (strength op) ts
     → run (over (left op f ∷ stack) g) ts ≡ run (over stack (two op f g)) ts
 absorbed op f g stack [] h = rw (le-leb 0 (strength op) (omega arith)) refl
 absorbed op f g stack (tokens.Between other ∷ ts) h = rw (le-leb (left_rank other) (strength op) h) refl
@@ -94,7 +94,7 @@ not_leb : (a b : ℕ) → (a ≤ b → ⊥) → leb a b ≡ false
 not_leb a b h = grind (arith, h)
 
 -- an operator that may stand there waits
-shifted : (op : Infix) (f : Formula) (stack : List Frame) → Accepts stack (strength op)
+shifted : (op : Infix) (f : Formula) (stack : List Pending) → Accepts stack (strength op)
     → step (over stack f) (tokens.Between op) ≡ Some (due (left op f ∷ stack))
 shifted op f [] h = refl
 shifted Also f (paren ∷ stack) h = absurd (omega (arith, h))
@@ -113,7 +113,7 @@ shifted op f (ahead p ∷ stack) h =
 shifted op f (left other g ∷ stack) h = rw (not_leb (left_rank op) (strength other) (not_both (strength other) (strength op) h)) refl
 
 -- no operator before an operand waits for an operator between operands
-over_there : (op : Infix) (f : Formula) (stack : List Frame) → Accepts stack (strength op) → completes stack f ≡ over stack f
+over_there : (op : Infix) (f : Formula) (stack : List Pending) → Accepts stack (strength op) → completes stack f ≡ over stack f
 over_there op f [] h = refl
 over_there op f (paren ∷ stack) h = refl
 over_there op f (ahead p ∷ stack) h =
@@ -121,13 +121,13 @@ over_there op f (ahead p ∷ stack) h =
     absurd (omega (arith, h, most))
 over_there op f (left other e ∷ stack) h = refl
 
-accepts_more : (stack : List Frame) (r s : ℕ) → r ≤ s → Accepts stack r → Accepts stack s
+accepts_more : (stack : List Pending) (r s : ℕ) → r ≤ s → Accepts stack r → Accepts stack s
 accepts_more [] r s le h = tt
 accepts_more (paren ∷ stack) r s le h = omega (arith, le, h)
 accepts_more (ahead p ∷ stack) r s le h = omega (arith, le, h)
 accepts_more (left op f ∷ stack) r s le h = omega (arith, le, h)
 
-again : (f : Formula) (stack : List Frame) (ts : List Token) → IsGrouped f → Accepts stack (rank f) → Follows (rank f) ts
+again : (f : Formula) (stack : List Pending) (ts : List FormulaToken) → IsGrouped f → Accepts stack (rank f) → Follows (rank f) ts
     → run (due stack) (lexemes f ++ ts) ≡ run (completes stack f) ts
 again (constant value) stack ts grouped accepts follows = refl
 again (proposition p) stack ts grouped accepts follows = refl
@@ -154,45 +154,45 @@ parse_again f false grouped = again f [] [] grouped tt tt
 
 -- ---- what is read is written
 
-abbrev spell : List Frame → List Token
+abbrev spell : List Pending → List FormulaToken
 spell [] = []
 spell (paren ∷ stack) = spell stack ++ (tokens.LeftParen ∷ [])
 spell (ahead op ∷ stack) = spell stack ++ (tokens.Before op ∷ [])
 spell (left op f ∷ stack) = spell stack ++ (lexemes f ++ (tokens.Between op ∷ []))
 
-abbrev IsStack : List Frame → Type 0
+abbrev IsStack : List Pending → Type 0
 IsStack [] = Unit {0}
 IsStack (paren ∷ stack) = IsStack stack
 IsStack (ahead op ∷ stack) = IsStack stack
 IsStack (left op f ∷ stack) = IsGrouped f × (left_rank op ≤ rank f) × Accepts stack (strength op) × IsStack stack
 
 -- no operator before an operand waits
-abbrev IsFree : List Frame → Type 0
+abbrev IsFree : List Pending → Type 0
 IsFree [] = Unit {0}
 IsFree (paren ∷ stack) = Unit {0}
 IsFree (ahead op ∷ stack) = ⊥
 IsFree (left op f ∷ stack) = Unit {0}
 
-record Due (stack : List Frame) (read : List Token) : Type 0 where
+record Due (stack : List Pending) (read : List FormulaToken) : Type 0 where
   pub spelt : read ≡ spell stack
   pub is : IsStack stack
 
-record Over (stack : List Frame) (f : Formula) (read : List Token) : Type 0 where
+record Over (stack : List Pending) (f : Formula) (read : List FormulaToken) : Type 0 where
   pub spelt : read ≡ spell stack ++ lexemes f
   pub is : IsStack stack
   pub accepts : Accepts stack (rank f)
   pub free : IsFree stack
   pub grouped : IsGrouped f
 
-abbrev Good : State → List Token → Type 0
+abbrev Good : State → List FormulaToken → Type 0
 Good (due stack) read = Due stack read
 Good (over stack f) read = Over stack f read × (8 ≤ rank f)
 
-abbrev GoodIf : Option State → List Token → Type 0
+abbrev GoodIf : Option State → List FormulaToken → Type 0
 GoodIf None read = Unit {0}
 GoodIf (Some s) read = Good s read
 
-completes_good : (stack : List Frame) (f : Formula) (read : List Token) → read ≡ spell stack ++ lexemes f → IsStack stack → IsGrouped f
+completes_good : (stack : List Pending) (f : Formula) (read : List FormulaToken) → read ≡ spell stack ++ lexemes f → IsStack stack → IsGrouped f
     → 8 ≤ rank f → Good (completes stack f) read
 completes_good [] f read e is grouped top = (record { spelt = e; is = is; accepts = tt; free = tt; grouped = grouped }, top)
 completes_good (paren ∷ stack) f read e is grouped top =
@@ -202,17 +202,17 @@ completes_good (ahead op ∷ stack) f read e is grouped top =
 completes_good (left op g ∷ stack) f read e is grouped top =
     (record { spelt = e; is = is; accepts = accepts_top (left op g ∷ stack) (rank f) top; free = tt; grouped = grouped }, top)
 
-abbrev Stops : ℕ → List Frame → Type 0
+abbrev Stops : ℕ → List Pending → Type 0
 Stops bound [] = Unit {0}
 Stops bound (paren ∷ stack) = Unit {0}
 Stops bound (ahead op ∷ stack) = Unit {0}
 Stops bound (left op f ∷ stack) = strength op < bound
 
-abbrev Reduced : ℕ → State → List Token → Type 0
+abbrev Reduced : ℕ → State → List FormulaToken → Type 0
 Reduced bound (due stack) read = ⊥
 Reduced bound (over stack f) read = Over stack f read × (bound ≤ rank f) × Stops bound stack
 
-free_there : (op : Infix) (stack : List Frame) → Accepts stack (strength op) → IsFree stack
+free_there : (op : Infix) (stack : List Pending) → Accepts stack (strength op) → IsFree stack
 free_there op [] h = tt
 free_there op (paren ∷ stack) h = tt
 free_there op (ahead p ∷ stack) h =
@@ -220,7 +220,7 @@ free_there op (ahead p ∷ stack) h =
     omega (arith, h, most)
 free_there op (left other f ∷ stack) h = tt
 
-reduces_good : (bound : ℕ) (stack : List Frame) (f : Formula) (read : List Token) → Over stack f read → bound ≤ rank f
+reduces_good : (bound : ℕ) (stack : List Pending) (f : Formula) (read : List FormulaToken) → Over stack f read → bound ≤ rank f
     → Reduced bound (reduces bound stack f) read
 reduces_good bound [] f read o le = (o, le, tt)
 reduces_good bound (paren ∷ stack) f read o le = (o, le, tt)
@@ -241,14 +241,14 @@ reduces_good bound (left op g ∷ stack) f read o le =
       | false ↦ λ e. (o, le, leb-false bound (strength op) e)
     ] refl
 
-waits : (op : Infix) (stack : List Frame) (f : Formula) (read : List Token) → Over stack f read → left_rank op ≤ rank f
+waits : (op : Infix) (stack : List Pending) (f : Formula) (read : List FormulaToken) → Over stack f read → left_rank op ≤ rank f
     → Accepts stack (strength op) → Due (left op f ∷ stack) (read ++ (tokens.Between op ∷ []))
 waits op stack f read o le accepts = record {
   spelt = ap (λ ts. ts ++ (tokens.Between op ∷ [])) o.spelt ∙ append_assoc (spell stack) (lexemes f) (tokens.Between op ∷ []);
   is = (o.grouped, le, accepts, o.is);
 }
 
-between_open : (op : Infix) (stack : List Frame) (f : Formula) (read : List Token) → Reduced (left_rank op) (over (paren ∷ stack) f) read
+between_open : (op : Infix) (stack : List Pending) (f : Formula) (read : List FormulaToken) → Reduced (left_rank op) (over (paren ∷ stack) f) read
     → GoodIf (between op (over (paren ∷ stack) f)) (read ++ (tokens.Between op ∷ []))
 between_open Also stack f read r = tt
 between_open Implies stack f read r = waits Implies (paren ∷ stack) f read r.0 r.1 (omega arith)
@@ -261,7 +261,7 @@ between_open Release stack f read r = waits Release (paren ∷ stack) f read r.0
 between_open Weak stack f read r = waits Weak (paren ∷ stack) f read r.0 r.1 (omega arith)
 between_open Strong stack f read r = waits Strong (paren ∷ stack) f read r.0 r.1 (omega arith)
 
-between_good : (op : Infix) (s : State) (read : List Token) → Reduced (left_rank op) s read → GoodIf (between op s) (read ++ (tokens.Between op ∷ []))
+between_good : (op : Infix) (s : State) (read : List FormulaToken) → Reduced (left_rank op) s read → GoodIf (between op s) (read ++ (tokens.Between op ∷ []))
 between_good op (due stack) read r = absurd r
 between_good op (over [] f) read r = waits op [] f read r.0 r.1 tt
 between_good op (over (paren ∷ stack) f) read r = between_open op stack f read r
@@ -269,7 +269,7 @@ between_good op (over (ahead p ∷ stack) f) read r = absurd r.0.free
 between_good op (over (left other g ∷ stack) f) read r =
     waits op (left other g ∷ stack) f read r.0 r.1 (one_of_both (strength other) (strength op) r.2)
 
-closed_good : (s : State) (read : List Token) → Reduced 1 s read → GoodIf (closed s) (read ++ (tokens.RightParen ∷ []))
+closed_good : (s : State) (read : List FormulaToken) → Reduced 1 s read → GoodIf (closed s) (read ++ (tokens.RightParen ∷ []))
 closed_good (due stack) read r = absurd r
 closed_good (over [] f) read r = tt
 closed_good (over (paren ∷ stack) f) read r =
@@ -281,7 +281,7 @@ closed_good (over (paren ∷ stack) f) read r =
 closed_good (over (ahead p ∷ stack) f) read r = tt
 closed_good (over (left op g ∷ stack) f) read r = tt
 
-step_good : (s : State) (t : Token) (read : List Token) → Good s read → GoodIf (step s t) (read ++ (t ∷ []))
+step_good : (s : State) (t : FormulaToken) (read : List FormulaToken) → Good s read → GoodIf (step s t) (read ++ (t ∷ []))
 step_good (due stack) (tokens.Proposition p) read d =
     completes_good stack (proposition p) (read ++ (tokens.Proposition p ∷ [])) (ap (λ ts. ts ++ (tokens.Proposition p ∷ [])) d.spelt) d.is tt
     (omega arith)
@@ -304,23 +304,23 @@ step_good (over stack f) tokens.RightParen read o =
     let top = o.1 in
     closed_good (reduces 1 stack f) read (reduces_good 1 stack f read o.0 (omega (arith, top)))
 
-abbrev pub ReadsIf : Option Formula → List Token → Type 0
+abbrev pub ReadsIf : Option Formula → List FormulaToken → Type 0
 ReadsIf None ts = Unit {0}
 ReadsIf (Some f) ts = AreTokensOf ts f
 
-whole_good : (s : State) (read : List Token) → Reduced 0 s read → ReadsIf (whole s) read
+whole_good : (s : State) (read : List FormulaToken) → Reduced 0 s read → ReadsIf (whole s) read
 whole_good (due stack) read r = absurd r
 whole_good (over [] f) read r = record { ended = false; is = r.0.spelt ∙ sym (append-nil (lexemes f)); grouped = r.0.grouped }
 whole_good (over (paren ∷ stack) f) read r = tt
 whole_good (over (ahead p ∷ stack) f) read r = tt
 whole_good (over (left op g ∷ stack) f) read r = tt
 
-finish_good : (s : State) (read : List Token) → Good s read → ReadsIf (finish s) read
+finish_good : (s : State) (read : List FormulaToken) → Good s read → ReadsIf (finish s) read
 finish_good (over stack f) read o = whole_good (reduces 0 stack f) read (reduces_good 0 stack f read o.0 (omega arith))
 finish_good (due (left Also f ∷ [])) read d = record { ended = true; is = d.spelt; grouped = d.is.0 }
 finish_good (due stack) read d = tt
 
-run_good : (ts : List Token) (s : State) (read : List Token) → Good s read → ReadsIf (run s ts) (read ++ ts)
+run_good : (ts : List FormulaToken) (s : State) (read : List FormulaToken) → Good s read → ReadsIf (run s ts) (read ++ ts)
 run_good [] s read good = subst (ReadsIf (finish s)) (sym (append-nil read)) (finish_good s read good)
 run_good (t ∷ ts) s read good =
     subst (ReadsIf (run_if (λ r. run r ts) (step s t))) (append_assoc read (t ∷ []) ts)
@@ -329,19 +329,19 @@ run_good (t ∷ ts) s read good =
       | Some r ↦ λ g. run_good ts r (read ++ (t ∷ [])) g
     ] (step_good s t read good))
 
-pub parse_takes : (ts : List Token) (f : Formula) → parse ts ≡ Some f → AreTokensOf ts f
+pub parse_takes : (ts : List FormulaToken) (f : Formula) → parse ts ≡ Some f → AreTokensOf ts f
 parse_takes ts f e = subst (λ o. ReadsIf o ts) e (run_good ts (due []) [] (record { spelt = refl; is = tt }))
 
 -- ---- what can be gone on with
 
 -- each bracket that is open closes
-abbrev closers : List Frame → List Token
+abbrev closers : List Pending → List FormulaToken
 closers [] = []
 closers (paren ∷ stack) = tokens.RightParen ∷ closers stack
 closers (ahead op ∷ stack) = closers stack
 closers (left op f ∷ stack) = closers stack
 
-follows_closers : (r : ℕ) (stack : List Frame) → 1 ≤ r → Follows r (closers stack)
+follows_closers : (r : ℕ) (stack : List Pending) → 1 ≤ r → Follows r (closers stack)
 follows_closers r [] h = tt
 follows_closers r (paren ∷ stack) h = h
 follows_closers r (ahead op ∷ stack) h = follows_closers r stack h
@@ -350,7 +350,7 @@ follows_closers r (left op f ∷ stack) h = follows_closers r stack h
 right_least : (s : ℕ) → 1 ≤ s + 1 - s % 2
 right_least s = grind arith
 
-closers_follow : (op : Infix) (stack : List Frame) → Accepts stack (strength op) → Follows (strength op) (closers stack)
+closers_follow : (op : Infix) (stack : List Pending) → Accepts stack (strength op) → Follows (strength op) (closers stack)
 closers_follow op [] h = tt
 closers_follow op (paren ∷ stack) h = h
 closers_follow op (ahead p ∷ stack) h = follows_closers (strength op) stack (omega (arith, h))
@@ -358,7 +358,7 @@ closers_follow op (left other f ∷ stack) h =
     let least = right_least (strength other) in
     follows_closers (strength op) stack (omega (arith, h, least))
 
-closes : (stack : List Frame) (f : Formula) → IsStack stack → (g : Formula) × (run (completes stack f) (closers stack) ≡ Some g)
+closes : (stack : List Pending) (f : Formula) → IsStack stack → (g : Formula) × (run (completes stack f) (closers stack) ≡ Some g)
 closes [] f is = (f, refl)
 closes (paren ∷ stack) f is = closes stack (bracket f) is
 closes (ahead op ∷ stack) f is = closes stack (one op f) is
@@ -369,19 +369,19 @@ closes (left op g ∷ stack) f is =
           ∙ ap (λ s. run s (closers stack)) (sym (over_there op (two op g f) stack is.2)) ∙ more.1,
     )
 
-free_over : (stack : List Frame) (f : Formula) → IsFree stack → completes stack f ≡ over stack f
+free_over : (stack : List Pending) (f : Formula) → IsFree stack → completes stack f ≡ over stack f
 free_over [] f h = refl
 free_over (paren ∷ stack) f h = refl
 free_over (ahead op ∷ stack) f h = absurd h
 free_over (left op g ∷ stack) f h = refl
 
-goes_on : (s : State) (read : List Token) → Good s read → (more : List Token) × (g : Formula) × (run s more ≡ Some g)
+goes_on : (s : State) (read : List FormulaToken) → Good s read → (more : List FormulaToken) × (g : Formula) × (run s more ≡ Some g)
 goes_on (due stack) read d = let c = closes stack (constant true) d.is in (tokens.Constant true ∷ closers stack, c.0, c.1)
 goes_on (over stack f) read o =
     let c = closes stack f o.0.is in
     (closers stack, c.0, ap (λ s. run s (closers stack)) (sym (free_over stack f o.0.free)) ∙ c.1)
 
-steps_good : (ts : List Token) (s : State) (read : List Token) → Good s read → GoodIf (steps s ts) (read ++ ts)
+steps_good : (ts : List FormulaToken) (s : State) (read : List FormulaToken) → Good s read → GoodIf (steps s ts) (read ++ ts)
 steps_good [] s read good = subst (Good s) (sym (append-nil read)) good
 steps_good (t ∷ ts) s read good =
     subst (GoodIf (steps_if (λ r. steps r ts) (step s t))) (append_assoc read (t ∷ []) ts)
@@ -390,7 +390,7 @@ steps_good (t ∷ ts) s read good =
       | Some r ↦ λ g. steps_good ts r (read ++ (t ∷ [])) g
     ] (step_good s t read good))
 
-run_after : (ts : List Token) (s r : State) (more : List Token) → steps s ts ≡ Some r → run s (ts ++ more) ≡ run r more
+run_after : (ts : List FormulaToken) (s r : State) (more : List FormulaToken) → steps s ts ≡ Some r → run s (ts ++ more) ≡ run r more
 run_after [] s r more e = ap (λ q. run q more) (some_is s r e)
 run_after (t ∷ ts) s r more e =
     elim (step s t) as (λ o. steps_if (λ q. steps q ts) o ≡ Some r → run_if (λ q. run q (ts ++ more)) o ≡ run r more) [
@@ -398,13 +398,13 @@ run_after (t ∷ ts) s r more e =
       | Some q ↦ λ h. run_after ts q r more h
     ] e
 
-pub begins_one : (ts : List Token) (r : State) → steps (due []) ts ≡ Some r → BeginsOne ts
+pub begins_one : (ts : List FormulaToken) (r : State) → steps (due []) ts ≡ Some r → BeginsOne ts
 begins_one ts r e =
     let good : Good r ts = subst (λ (o : Option State). GoodIf o ts) e (steps_good ts (due []) [] (record { spelt = refl; is = tt })) in
     let on = goes_on r ts good in
     record { more = on.0; formula = on.1; is = parse_takes (ts ++ on.0) on.1 (run_after ts (due []) r on.0 e ∙ on.2) }
 
-pub begins_none : (ts : List Token) (t : Token) (r : State) → steps (due []) ts ≡ Some r → step r t ≡ None → BeginsNone (ts ++ (t ∷ []))
+pub begins_none : (ts : List FormulaToken) (t : FormulaToken) (r : State) → steps (due []) ts ≡ Some r → step r t ≡ None → BeginsNone (ts ++ (t ∷ []))
 begins_none ts t r e stuck more f is =
     none_is_some f (
     sym (ap (run_if (λ q. run q more)) stuck)

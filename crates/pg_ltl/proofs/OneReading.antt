@@ -8,7 +8,7 @@ use Rattle.std.proofs.lemmas.Bool.{cases_lt}
 use Rattle.std.proofs.lemmas.List.{take-append-drop}
 use Rattle.std.proofs.lemmas.Option.{slice_get-get_or, slice_get_past}
 use Rattle.pg_list_lemmas.proofs.Steps.{some_is, none_is_some}
-use Rattle.pg_ltl.specs.declared.token.Token.{Token}
+use Rattle.pg_ltl.specs.declared.token.FormulaToken.{FormulaToken}
 use Rattle.pg_ltl.specs.declared.fault.FormulaFault.TheVariants.{Syntax, TooManyOperators}
 use Rattle.pg_ltl.specs.declared.noting.Tokens.{Tokens}
 use Rattle.pg_ltl.specs.declared.noting.Stop.{Stop}
@@ -26,7 +26,7 @@ use Rattle.pg_ltl.proofs.Spelling.{length-noted, tokens_grow, names_grow, words_
 
 -- ---- one reading
 
-tokens_once : (ts us : List Token) (f g : Formula) → ts ≡ us → AreTokensOf ts f → AreTokensOf us g → f ≡ g
+tokens_once : (ts us : List FormulaToken) (f g : Formula) → ts ≡ us → AreTokensOf ts f → AreTokensOf us g → f ≡ g
 tokens_once ts us f g e a b =
     some_is f g (sym (parse_again f a.ended a.grouped) ∙ ap parse (sym a.is ∙ e ∙ b.is) ∙ parse_again g b.ended b.grouped)
 
@@ -51,7 +51,7 @@ module _ (bytes : List ℕ) (t : Tokens) (stop : Stop) (end : ℕ) (text : IsTex
   begins = placed_begins (length bytes) bytes words t.offsets.items text.rest text.has.placed
 
   -- the tokens of what is spelt begin with these
-  all_tokens : (all : List Word) → Spells bytes all → (more : List Token) × ((noted all).tokens ≡ t.tokens.items ++ more)
+  all_tokens : (all : List Word) → Spells bytes all → (more : List FormulaToken) × ((noted all).tokens ≡ t.tokens.items ++ more)
   all_tokens all spelt =
       let o = begins_only bytes words text.rest all begins spelt in
       let grown = tokens_grow o.0 (noted words) in (
@@ -64,9 +64,9 @@ module _ (bytes : List ℕ) (t : Tokens) (stop : Stop) (end : ℕ) (text : IsTex
   none_begun k none names f spelt =
       let all = all_tokens spelt.words spelt.spelt in
       let parts : (noted spelt.words).tokens ≡ take k t.tokens.items ++ (drop k t.tokens.items ++ all.0) =
-      all.1 ∙ ap (λ (ts : List Token). ts ++ all.0) (sym (take-append-drop k t.tokens.items))
+      all.1 ∙ ap (λ (ts : List FormulaToken). ts ++ all.0) (sym (take-append-drop k t.tokens.items))
       ∙ append_assoc (take k t.tokens.items) (drop k t.tokens.items) all.0 in
-      none (drop k t.tokens.items ++ all.0) f (subst (λ (ts : List Token). AreTokensOf ts f) parts spelt.tokens)
+      none (drop k t.tokens.items ++ all.0) f (subst (λ (ts : List FormulaToken). AreTokensOf ts f) parts spelt.tokens)
 
   -- all tokens are those of what is spelt
   same_tokens : behind_blanks text.rest ≡ [] → (all : List Word) → Spells bytes all → noted all ≡ noted_in t
@@ -176,7 +176,7 @@ module _ (bytes : List ℕ) (t : Tokens) (stop : Stop) (end : ℕ) (text : IsTex
   ]
 
   pub begun : (f : Formula) → AreTokensOf t.tokens.items f → BeginsOne t.tokens.items
-  begun f tokens = record { more = []; formula = f; is = subst (λ (ts : List Token). AreTokensOf ts f) (sym (append-nil t.tokens.items)) tokens }
+  begun f tokens = record { more = []; formula = f; is = subst (λ (ts : List FormulaToken). AreTokensOf ts f) (sym (append-nil t.tokens.items)) tokens }
 
   pub spelt_there : (f : Formula) → stop ≡ End → AreTokensOf t.tokens.items f → count_by is_operator t.tokens.items ≤ 4096
       → Spelt bytes (noted_in t).names f

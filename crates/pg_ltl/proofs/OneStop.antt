@@ -2,7 +2,7 @@
 use Rattle.std.proofs.Common.{◌≡◌, ℕ, ◌⊎◌, inl, inr, List, [], ◌∷◌, ◌++◌, length, Some, refl, sym, subst, ap, ◌∙◌, arith, append_assoc}
 use Rattle.std.specs.List.{fold}
 use Rattle.pg_list_lemmas.proofs.Steps.{some_is}
-use Rattle.pg_ltl.specs.declared.token.Token.{Token}
+use Rattle.pg_ltl.specs.declared.token.FormulaToken.{FormulaToken}
 use Rattle.pg_ltl.specs.FormulaTexts.{AreTokensOf, BeginsNone}
 use Rattle.pg_ltl.specs.Words.{Word, behind_blanks, word_at, Begins}
 use Rattle.pg_ltl.specs.Texts.{Noted, note, noted, IsWrong, StopsAt}
@@ -69,8 +69,8 @@ not_past bytes m n a b on =
     ∙ subst (λ (k : Noted). (fold note k on.more).tokens ≡ (note (noted a.words) on.word).tokens ++ grown.0)
     (sym (noted-push a.words on.word)) grown.1 in
     none (grown.0 ++ b.before.more) b.before.formula
-    (subst (λ (ts : List Token). AreTokensOf ts b.before.formula)
-    (ap (λ (ts : List Token). ts ++ b.before.more) parts ∙ append_assoc (note (noted a.words) on.word).tokens grown.0 b.before.more) b.before.is)
+    (subst (λ (ts : List FormulaToken). AreTokensOf ts b.before.formula)
+    (ap (λ (ts : List FormulaToken). ts ++ b.before.more) parts ∙ append_assoc (note (noted a.words) on.word).tokens grown.0 b.before.more) b.before.is)
 
 pub one_stop : (bytes : List ℕ) (m n : ℕ) → StopsAt bytes m → StopsAt bytes n → m ≡ n
 one_stop bytes m n a b = elim (compared bytes a.words a.rest b.words b.rest a.begins b.begins) [

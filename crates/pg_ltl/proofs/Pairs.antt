@@ -4,7 +4,7 @@ use Rattle.std.proofs.lemmas.Bool.{cases_lt}
 use Rattle.std.proofs.lemmas.List.{length-append, get_or_append_left, get_or_push}
 use Rattle.pg_ltl.specs.declared.normal.NormalNode.{NormalNode}
 use Rattle.pg_ltl.specs.declared.formula.FormulaNode.{FormulaNode}
-use Rattle.pg_ltl.specs.declared.pair.Pair.{Pair}
+use Rattle.pg_ltl.specs.declared.pair.NegationPair.{NegationPair}
 use Rattle.pg_ltl.specs.declared.formula.Prefix.TheVariants.{Not, Next}
 use Rattle.pg_ltl.specs.declared.formula.Infix.TheVariants.{Equivalent, Or, Until}
 use Rattle.pg_ltl.specs.Formulas.{Formula, constant, one, two}
@@ -13,34 +13,34 @@ use Rattle.pg_ltl.specs.Mirrors.Nodes.{AreFormulaNodes, node_in, formula_at, for
 use Rattle.pg_ltl.specs.Mirrors.Pairs.{Extends, AddsNode, AddsPair, AddsFormula, IsWithin, StandsFor, PairsStand, pair_in, negated, side}
 use Rattle.pg_ltl.proofs.Nodes.{formula_step, normal_in-extends, length-extends, extends_twice, operands_kept, paired}
 
-pub within_kept : (old new : List NormalNode) (f : Pair) → Extends old new → IsWithin old f → IsWithin new f
+pub within_kept : (old new : List NormalNode) (f : NegationPair) → Extends old new → IsWithin old f → IsWithin new f
 within_kept old new f grown within =
     let l = length-extends old new grown in
     let y = within.yes in
     let n = within.no in
     record { yes = omega (arith, l, y); no = omega (arith, l, n) }
 
-pub within_negated : (nodes : List NormalNode) (f g : Pair) → g ≡ negated f → IsWithin nodes f → IsWithin nodes g
+pub within_negated : (nodes : List NormalNode) (f g : NegationPair) → g ≡ negated f → IsWithin nodes f → IsWithin nodes g
 within_negated nodes f g e within = subst (IsWithin nodes) (sym e) (record { yes = within.no; no = within.yes })
 
-pub stands_kept : (old new : List NormalNode) (f : Pair) (a : Formula) → Extends old new → StandsFor old f a → StandsFor new f a
+pub stands_kept : (old new : List NormalNode) (f : NegationPair) (a : Formula) → Extends old new → StandsFor old f a → StandsFor new f a
 stands_kept old new f a grown stands = record {
   within = within_kept old new f grown stands.within;
   is_yes = normal_in-extends old new f.yes grown stands.within.yes ∙ stands.is_yes;
   is_no = normal_in-extends old new f.no grown stands.within.no ∙ stands.is_no;
 }
 
-pub stands_negated : (nodes : List NormalNode) (f g : Pair) (a : Formula) → g ≡ negated f → StandsFor nodes f a → StandsFor nodes g (one Not a)
+pub stands_negated : (nodes : List NormalNode) (f g : NegationPair) (a : Formula) → g ≡ negated f → StandsFor nodes f a → StandsFor nodes g (one Not a)
 stands_negated nodes f g a e stands = subst (λ p. StandsFor nodes p (one Not a)) (sym e) (record {
   within = record { yes = stands.within.no; no = stands.within.yes };
   is_yes = stands.is_no;
   is_no = stands.is_yes;
 })
 
-pub adds_stands : (old new : List NormalNode) (p : Pair) (a : Formula) → AddsFormula old new p a → StandsFor new p a
+pub adds_stands : (old new : List NormalNode) (p : NegationPair) (a : Formula) → AddsFormula old new p a → StandsFor new p a
 adds_stands old new p a adds = record { within = adds.within; is_yes = adds.is_yes; is_no = adds.is_no }
 
-pub adds_there : (nodes : List NormalNode) (p : Pair) (a : Formula) → AreNormalNodes nodes → StandsFor nodes p a → AddsFormula nodes nodes p a
+pub adds_there : (nodes : List NormalNode) (p : NegationPair) (a : Formula) → AreNormalNodes nodes → StandsFor nodes p a → AddsFormula nodes nodes p a
 adds_there nodes p a ordered stands = record {
   grown = ([], sym (append-nil nodes));
   ordered = ordered;
@@ -49,7 +49,7 @@ adds_there nodes p a ordered stands = record {
   is_no = stands.is_no;
 }
 
-pub adds_negated : (old new : List NormalNode) (p q : Pair) (a b : NormalForm) → q ≡ negated p → AddsPair old new p a b → AddsPair old new q b a
+pub adds_negated : (old new : List NormalNode) (p q : NegationPair) (a b : NormalForm) → q ≡ negated p → AddsPair old new p a b → AddsPair old new q b a
 adds_negated old new p q a b e adds = subst (λ r. AddsPair old new r b a) (sym e) (record {
   grown = adds.grown;
   ordered = adds.ordered;
@@ -58,7 +58,7 @@ adds_negated old new p q a b e adds = subst (λ r. AddsPair old new r b a) (sym 
   is_no = adds.is_yes;
 })
 
-pub adds_over : (old mid new : List NormalNode) (p : Pair) (a b : NormalForm) → Extends old mid → AddsPair mid new p a b → AddsPair old new p a b
+pub adds_over : (old mid new : List NormalNode) (p : NegationPair) (a b : NormalForm) → Extends old mid → AddsPair mid new p a b → AddsPair old new p a b
 adds_over old mid new p a b grown adds = record {
   grown = extends_twice old mid new grown adds.grown;
   ordered = adds.ordered;
@@ -67,7 +67,7 @@ adds_over old mid new p a b grown adds = record {
   is_no = adds.is_no;
 }
 
-adds_changed : (old new : List NormalNode) (p : Pair) (a b c d : NormalForm) → a ≡ c → b ≡ d → AddsPair old new p a b → AddsPair old new p c d
+adds_changed : (old new : List NormalNode) (p : NegationPair) (a b c d : NormalForm) → a ≡ c → b ≡ d → AddsPair old new p a b → AddsPair old new p c d
 adds_changed old new p a b c d e g adds = record {
   grown = adds.grown;
   ordered = adds.ordered;
@@ -76,26 +76,26 @@ adds_changed old new p a b c d e g adds = record {
   is_no = adds.is_no ∙ g;
 }
 
-pub next_adds : (old new : List NormalNode) (p f : Pair) (a : Formula) → StandsFor old f a
+pub next_adds : (old new : List NormalNode) (p f : NegationPair) (a : Formula) → StandsFor old f a
     → AddsPair old new p (next (normal_in old f.yes)) (next (normal_in old f.no)) → AddsFormula old new p (one Next a)
 next_adds old new p f a stands adds = adds_changed old new p _ _ _ _ (ap next stands.is_yes) (ap next stands.is_no) adds
 
 ap2 : (op : NormalForm → NormalForm → NormalForm) (a b c d : NormalForm) → a ≡ c → b ≡ d → op a b ≡ op c d
 ap2 op a b c d e g = ap (λ x. op x b) e ∙ ap (λ x. op c x) g
 
-pub or_adds : (old new : List NormalNode) (p f g : Pair) (a b : Formula) → StandsFor old f a → StandsFor old g b
+pub or_adds : (old new : List NormalNode) (p f g : NegationPair) (a b : Formula) → StandsFor old f a → StandsFor old g b
     → AddsPair old new p (either (normal_in old f.yes) (normal_in old g.yes)) (both (normal_in old f.no) (normal_in old g.no))
     → AddsFormula old new p (two Or a b)
 or_adds old new p f g a b s t adds =
     adds_changed old new p _ _ _ _ (ap2 either _ _ _ _ s.is_yes t.is_yes) (ap2 both _ _ _ _ s.is_no t.is_no) adds
 
-pub until_adds : (old new : List NormalNode) (p f g : Pair) (a b : Formula) → StandsFor old f a → StandsFor old g b
+pub until_adds : (old new : List NormalNode) (p f g : NegationPair) (a b : Formula) → StandsFor old f a → StandsFor old g b
     → AddsPair old new p (until (normal_in old f.yes) (normal_in old g.yes)) (release (normal_in old f.no) (normal_in old g.no))
     → AddsFormula old new p (two Until a b)
 until_adds old new p f g a b s t adds =
     adds_changed old new p _ _ _ _ (ap2 until _ _ _ _ s.is_yes t.is_yes) (ap2 release _ _ _ _ s.is_no t.is_no) adds
 
-pub equivalent_adds : (old new : List NormalNode) (p f g : Pair) (a b : Formula) → StandsFor old f a → StandsFor old g b
+pub equivalent_adds : (old new : List NormalNode) (p f g : NegationPair) (a b : Formula) → StandsFor old f a → StandsFor old g b
     → AddsPair old new p (either (both (normal_in old f.yes) (normal_in old g.yes)) (both (normal_in old f.no) (normal_in old g.no)))
     (either (both (normal_in old f.yes) (normal_in old g.no)) (both (normal_in old f.no) (normal_in old g.yes)))
     → AddsFormula old new p (two Equivalent a b)
@@ -105,7 +105,7 @@ equivalent_adds old new p f g a b s t adds =
     (ap2 either _ _ _ _ (ap2 both _ _ _ _ s.is_yes t.is_no) (ap2 both _ _ _ _ s.is_no t.is_yes)) adds
 
 -- an always that is new, and then an until
-pub finally_adds : (old mid new : List NormalNode) (p always f : Pair) (a : Formula) → AddsPair old mid always top bottom → StandsFor old f a
+pub finally_adds : (old mid new : List NormalNode) (p always f : NegationPair) (a : Formula) → AddsPair old mid always top bottom → StandsFor old f a
     → AddsPair mid new p (until (normal_in mid always.yes) (normal_in mid f.yes)) (release (normal_in mid always.no) (normal_in mid f.no))
     → AddsFormula old new p (two Until (constant true) a)
 finally_adds old mid new p always f a truth s adds =
@@ -114,7 +114,7 @@ finally_adds old mid new p always f a truth s adds =
     (stands_kept old mid f a truth.grown s) adds)
 
 -- a pair of parts, and then one made of them
-pub made_of : (op : NormalForm → NormalForm → NormalForm) (old mid new : List NormalNode) (p : Pair) (place : ℕ) (a b : NormalForm)
+pub made_of : (op : NormalForm → NormalForm → NormalForm) (old mid new : List NormalNode) (p : NegationPair) (place : ℕ) (a b : NormalForm)
     → AddsPair old mid p a b → AddsNode mid new place (op (normal_in mid p.yes) (normal_in mid p.no)) → AddsNode old new place (op a b)
 made_of op old mid new p place a b first second = record {
   grown = extends_twice old mid new first.grown second.grown;
@@ -123,14 +123,14 @@ made_of op old mid new p place a b first second = record {
   is = second.is ∙ ap2 op _ _ _ _ first.is_yes first.is_no;
 }
 
-abbrev agree : List NormalNode → Pair → Pair → NormalForm
+abbrev agree : List NormalNode → NegationPair → NegationPair → NormalForm
 agree nodes f g = either (both (normal_in nodes f.yes) (normal_in nodes g.yes)) (both (normal_in nodes f.no) (normal_in nodes g.no))
 
-agree_kept : (old new : List NormalNode) (f g : Pair) → Extends old new → IsWithin old f → IsWithin old g → agree new f g ≡ agree old f g
+agree_kept : (old new : List NormalNode) (f g : NegationPair) → Extends old new → IsWithin old f → IsWithin old g → agree new f g ≡ agree old f g
 agree_kept old new f g grown s t =
     ap2 either _ _ _ _ (operands_kept both old new f.yes g.yes grown s.yes t.yes) (operands_kept both old new f.no g.no grown s.no t.no)
 
-pub agreements : (old mid new : List NormalNode) (y n : ℕ) (f g h : Pair) → h ≡ negated g → IsWithin old f → IsWithin old g
+pub agreements : (old mid new : List NormalNode) (y n : ℕ) (f g h : NegationPair) → h ≡ negated g → IsWithin old f → IsWithin old g
     → AddsNode old mid y (agree old f g) → AddsNode mid new n (agree mid f h)
     → AddsPair old new (record { yes = y; no = n }) (agree old f g) (agree old f (negated g))
 agreements old mid new y n f g h e s t first second =
@@ -138,7 +138,7 @@ agreements old mid new y n f g h e s t first second =
     (agree_kept old mid f h first.grown s (within_negated old g h e t) ∙ ap (agree old f) e)
 
 -- a disjunction, and then an until of its negation
-pub weak_adds : (old mid new : List NormalNode) (some p f g h k : Pair) (a b : Formula) → StandsFor old f a → StandsFor old g b
+pub weak_adds : (old mid new : List NormalNode) (some p f g h k : NegationPair) (a b : Formula) → StandsFor old f a → StandsFor old g b
     → AddsPair old mid some (either (normal_in old f.yes) (normal_in old g.yes)) (both (normal_in old f.no) (normal_in old g.no))
     → h ≡ negated g → k ≡ negated some
     → AddsPair mid new p (until (normal_in mid h.yes) (normal_in mid k.yes)) (release (normal_in mid h.no) (normal_in mid k.no))
@@ -150,17 +150,17 @@ weak_adds old mid new some p f g h k a b s t any e u adds =
     (stands_negated mid g h b e (stands_kept old mid g b or.grown t))
     (stands_negated mid some k (two Or a b) u (adds_stands old mid some (two Or a b) or)) adds)
 
-pub side_within : (nodes : List NormalNode) (p : Pair) (positive : Bool) → IsWithin nodes p → side p positive < length nodes
+pub side_within : (nodes : List NormalNode) (p : NegationPair) (positive : Bool) → IsWithin nodes p → side p positive < length nodes
 side_within nodes p true within = within.yes
 side_within nodes p false within = within.no
 
-pub side_is : (nodes : List NormalNode) (p : Pair) (f : Formula) (positive : Bool) → StandsFor nodes p f
+pub side_is : (nodes : List NormalNode) (p : NegationPair) (f : Formula) (positive : Bool) → StandsFor nodes p f
     → normal_in nodes (side p positive) ≡ normal positive f
 side_is nodes p f true stands = stands.is_yes
 side_is nodes p f false stands = stands.is_no
 
 -- one pair more
-pub pairs_push : (old new : List NormalNode) (pairs : List Pair) (p : Pair) (fs : List Formula) → Extends old new → PairsStand old pairs fs
+pub pairs_push : (old new : List NormalNode) (pairs : List NegationPair) (p : NegationPair) (fs : List Formula) → Extends old new → PairsStand old pairs fs
     → StandsFor new p (get_or fs (length pairs) (constant false)) → PairsStand new (pairs ++ (p ∷ [])) fs
 pairs_push old new pairs p fs grown stand here i lt = elim (cases_lt i (length pairs)) [
   | inl below ↦
@@ -174,12 +174,12 @@ pairs_push old new pairs p fs grown stand here i lt = elim (cases_lt i (length p
 ]
 
 -- what the loop knows behind one part more
-pub record Stepped (nodes : List NormalNode) (pairs : List Pair) (place : ℕ) (fs : List Formula) : Type 0 where
+pub record Stepped (nodes : List NormalNode) (pairs : List NegationPair) (place : ℕ) (fs : List Formula) : Type 0 where
   pub count : length pairs ≡ place
   pub ordered : AreNormalNodes nodes
   pub stand : PairsStand nodes pairs fs
 
-pub stepped : (old new : List NormalNode) (pairs slice longer : List Pair) (p : Pair) (parts : List FormulaNode) (node : FormulaNode) (place : ℕ)
+pub stepped : (old new : List NormalNode) (pairs slice longer : List NegationPair) (p : NegationPair) (parts : List FormulaNode) (node : FormulaNode) (place : ℕ)
     → slice ≡ pairs → longer ≡ pairs ++ (p ∷ []) → length pairs ≡ place → place < length parts → AreFormulaNodes parts
     → node ≡ node_in parts place
     → ((fs : List Formula) → PairsStand old slice fs → AddsFormula old new p (formula_at fs node))

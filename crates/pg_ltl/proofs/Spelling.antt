@@ -9,8 +9,8 @@ use Rattle.std.proofs.lemmas.List.Sums.{fold-append}
 use Rattle.pg_list_lemmas.proofs.Steps.{some_is, none_is_some}
 use Rattle.pg_list_lemmas.specs.Bytes.{is_digit}
 use Rattle.pg_ltl.specs.declared.formula.Prefix.{Prefix}
-use Rattle.pg_ltl.specs.declared.token.Token.{Token}
-use Rattle.pg_ltl.specs.declared.token.Token.TheVariants.{Before, Proposition}
+use Rattle.pg_ltl.specs.declared.token.FormulaToken.{FormulaToken}
+use Rattle.pg_ltl.specs.declared.token.FormulaToken.TheVariants.{Before, Proposition}
 use Rattle.pg_ltl.specs.Words.{Word, name, sign, is_space, is_start, is_inner, is_quoted, behind_blanks, bare_at, operator_of, makes_name}
 use Rattle.pg_ltl.specs.Words.{lettered, closed_by_quote, quoted_at, without, behind, arrow_at, single, sign_at, word_at, Spells, Begins}
 use Rattle.pg_ltl.specs.Texts.{Noted, note, noted, number_of}
@@ -74,7 +74,7 @@ without_less b [] = omega arith
 without_less b (c ∷ rest) =
     elim (eqb c b) as (λ x. length (if x then rest else c ∷ rest) ≤ length (c ∷ rest)) [ true ↦ omega arith | false ↦ omega arith ]
 
-behind_less : (b : ℕ) (t : Token) (bytes : List ℕ) → IsShorter (length bytes) (behind b t bytes)
+behind_less : (b : ℕ) (t : FormulaToken) (bytes : List ℕ) → IsShorter (length bytes) (behind b t bytes)
 unfolding behind
 behind_less b t [] = tt
 behind_less b t (c ∷ rest) = shorter_if (length (c ∷ rest)) (eqb c b) (Some (t, rest)) None (omega arith) tt
@@ -87,7 +87,7 @@ arrow_less (b ∷ rest) =
     (shorter_if (length (b ∷ rest)) (eqb b 45 || eqb b 61) _ None
     (shorter_more (length rest) (length (b ∷ rest)) _ (omega arith) (behind_less 62 _ rest)) tt)
 
-single_less : (rest : List ℕ) (o : Option Token) → IsShorter (length rest) (option_map (λ t. (t, rest)) o)
+single_less : (rest : List ℕ) (o : Option FormulaToken) → IsShorter (length rest) (option_map (λ t. (t, rest)) o)
 single_less rest None = tt
 single_less rest (Some t) = omega arith
 
@@ -101,7 +101,7 @@ sign_less b rest =
     (shorter_if (length rest) (eqb b 60) _ _ (arrow_less rest)
     (single_less rest (single b))))))
 
-signed_less : (n : ℕ) (o : Option (Token × List ℕ)) → IsShorter n o → IsShorter n (option_map (λ x. (sign x.0, x.1)) o)
+signed_less : (n : ℕ) (o : Option (FormulaToken × List ℕ)) → IsShorter n o → IsShorter n (option_map (λ x. (sign x.0, x.1)) o)
 signed_less n None h = tt
 signed_less n (Some x) h = h
 
@@ -258,16 +258,16 @@ names_grow (w ∷ words) n =
     let k = names_grow words (note n w) in
     omega (arith, h, k)
 
-tokens_more : (w : Word) (n : Noted) → (t : Token) × ((note n w).tokens ≡ n.tokens ++ (t ∷ []))
+tokens_more : (w : Word) (n : Noted) → (t : FormulaToken) × ((note n w).tokens ≡ n.tokens ++ (t ∷ []))
 tokens_more (sign t) n = (t, refl)
 tokens_more (name w) n = (Proposition (number_of w n.names), refl)
 
-pub tokens_grow : (words : List Word) (n : Noted) → (more : List Token) × ((fold note n words).tokens ≡ n.tokens ++ more)
+pub tokens_grow : (words : List Word) (n : Noted) → (more : List FormulaToken) × ((fold note n words).tokens ≡ n.tokens ++ more)
 tokens_grow [] n = ([], sym (append-nil n.tokens))
 tokens_grow (w ∷ words) n =
     let one = tokens_more w n in
     let rest = tokens_grow words (note n w) in
-    (one.0 ∷ rest.0, rest.1 ∙ ap (λ (ts : List Token). ts ++ rest.0) one.1 ∙ append_assoc n.tokens (one.0 ∷ []) rest.0)
+    (one.0 ∷ rest.0, rest.1 ∙ ap (λ (ts : List FormulaToken). ts ++ rest.0) one.1 ∙ append_assoc n.tokens (one.0 ∷ []) rest.0)
 
 pub noted-append : (words more : List Word) → noted (words ++ more) ≡ fold note (noted words) more
 noted-append words more = fold-append note (record { names = []; tokens = [] }) words more

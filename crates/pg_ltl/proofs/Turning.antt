@@ -1,13 +1,13 @@
--- Token by token through a formula.
+-- FormulaToken by token through a formula.
 use Rattle.std.proofs.Common.{◌≡◌, ℕ, suc, ◌+◌, ◌<◌, ◌≤◌, List, [], ◌∷◌, ◌++◌, length, get_or, take, drop, Option, Some, None, refl, sym}
 use Rattle.std.proofs.Common.{subst, ap, ◌∙◌, arith, drop-cons}
 use Rattle.std.proofs.lemmas.List.{length-drop, nil_from_length, take_more, get_or_default}
 use Rattle.pg_list_lemmas.proofs.Steps.{some_is, none_is_some}
-use Rattle.pg_ltl.specs.declared.token.Token.{Token}
+use Rattle.pg_ltl.specs.declared.token.FormulaToken.{FormulaToken}
 use Rattle.pg_ltl.specs.Mirrors.Run.{Kept, turn_at, finish_at, run_if, run_at, steps_if, steps_at, starting}
 use Rattle.pg_ltl.specs.Mirrors.Readings.{IsStuck}
 
-pub run_more : (k next : Kept) (ts : List Token) (i : ℕ) (d : Token) → i < length ts → turn_at k (get_or ts i d) ≡ Some next
+pub run_more : (k next : Kept) (ts : List FormulaToken) (i : ℕ) (d : FormulaToken) → i < length ts → turn_at k (get_or ts i d) ≡ Some next
     → run_at next (drop (i + 1) ts) ≡ run_at k (drop i ts)
 unfolding run_at
 run_more k next ts i d lt e =
@@ -16,20 +16,20 @@ run_more k next ts i d lt e =
     ∙ sym (ap (λ (o : Option Kept). run_if (λ r. run_at r (drop (suc i) ts)) o) e)
     ∙ sym (ap (run_at k) (drop-cons ts i d lt))
 
-pub run_stuck : (k : Kept) (ts : List Token) (i : ℕ) (d : Token) → i < length ts → turn_at k (get_or ts i d) ≡ None
+pub run_stuck : (k : Kept) (ts : List FormulaToken) (i : ℕ) (d : FormulaToken) → i < length ts → turn_at k (get_or ts i d) ≡ None
     → run_at k (drop i ts) ≡ None
 unfolding run_at
 run_stuck k ts i d lt e =
     ap (run_at k) (drop-cons ts i d lt) ∙ ap (λ (o : Option Kept). run_if (λ r. run_at r (drop (suc i) ts)) o) e
 
-pub run_ends : (k : Kept) (ts : List Token) (i : ℕ) → length ts ≤ i → run_at k (drop i ts) ≡ finish_at k
+pub run_ends : (k : Kept) (ts : List FormulaToken) (i : ℕ) → length ts ≤ i → run_at k (drop i ts) ≡ finish_at k
 unfolding run_at
 run_ends k ts i le = ap (run_at k) (drop_past ts i le)
   where
-    drop_past : (xs : List Token) (n : ℕ) → length xs ≤ n → drop n xs ≡ []
+    drop_past : (xs : List FormulaToken) (n : ℕ) → length xs ≤ n → drop n xs ≡ []
     drop_past xs n h = nil_from_length (drop n xs) (let l = length-drop n xs in omega (arith, l, h))
 
-steps_push : (ts : List Token) (k r s : Kept) (t : Token) → steps_at k ts ≡ Some r → turn_at r t ≡ Some s → steps_at k (ts ++ (t ∷ [])) ≡ Some s
+steps_push : (ts : List FormulaToken) (k r s : Kept) (t : FormulaToken) → steps_at k ts ≡ Some r → turn_at r t ≡ Some s → steps_at k (ts ++ (t ∷ [])) ≡ Some s
 unfolding steps_at
 steps_push [] k r s t e h =
     ap (λ (q : Kept). steps_if (λ u. Some u) (turn_at q t)) (some_is k r e) ∙ ap (λ (o : Option Kept). steps_if (λ u. Some u) o) h
@@ -39,7 +39,7 @@ steps_push (u ∷ us) k r s t e h =
       | Some q ↦ λ g. steps_push us q r s t g h
     ] e
 
-pub steps_more : (ts : List Token) (i : ℕ) (k r s : Kept) (d : Token) → i < length ts → steps_at k (take i ts) ≡ Some r
+pub steps_more : (ts : List FormulaToken) (i : ℕ) (k r s : Kept) (d : FormulaToken) → i < length ts → steps_at k (take i ts) ≡ Some r
     → turn_at r (get_or ts i d) ≡ Some s → steps_at k (take (i + 1) ts) ≡ Some s
 steps_more ts i k r s d lt e h = ap (steps_at k) (take_more ts i d lt) ∙ steps_push (take i ts) k r s (get_or ts i d) e h
 
@@ -47,7 +47,7 @@ pub starts : (k : Kept) → steps_at k [] ≡ Some k
 unfolding steps_at
 starts k = refl
 
-pub stuck_there : (ts : List Token) (i : ℕ) (k : Kept) (d : Token) → i < length ts → steps_at starting (take i ts) ≡ Some k
+pub stuck_there : (ts : List FormulaToken) (i : ℕ) (k : Kept) (d : FormulaToken) → i < length ts → steps_at starting (take i ts) ≡ Some k
     → turn_at k (get_or ts i d) ≡ None → IsStuck ts i
 stuck_there ts i k d lt e h = record {
   within = omega (arith, lt);
@@ -56,7 +56,7 @@ stuck_there ts i k d lt e h = record {
   stuck = λ other below. ap (turn_at k) (get_or_default ts i other d below) ∙ h;
 }
 
-pub stuck_behind : (ts : List Token) (i : ℕ) (k : Kept) → i ≤ length ts → length ts ≤ i → steps_at starting (take i ts) ≡ Some k → IsStuck ts (length ts)
+pub stuck_behind : (ts : List FormulaToken) (i : ℕ) (k : Kept) → i ≤ length ts → length ts ≤ i → steps_at starting (take i ts) ≡ Some k → IsStuck ts (length ts)
 stuck_behind ts i k le ge e =
     let same : i ≡ length ts = omega (arith, le, ge) in
     record {

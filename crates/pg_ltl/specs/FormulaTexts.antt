@@ -2,11 +2,11 @@
 use Rattle.std.specs.Prelude.{◌≡◌, ℕ, ◌+◌, ◌-◌, ◌%◌, ◌≤◌, Bool, List, [], ◌∷◌, ◌++◌, if◌then◌else◌}
 use Rattle.pg_ltl.specs.declared.formula.Infix.{Infix}
 use Rattle.pg_ltl.specs.declared.formula.Infix.TheVariants.{Implies, Equivalent, Or, Exclusive, And, Until, Release, Weak, Strong, Also}
-use Rattle.pg_ltl.specs.declared.token.Token.{Token}
-use Rattle.pg_ltl.specs.declared.token.Token.TheVariants as tokens
+use Rattle.pg_ltl.specs.declared.token.FormulaToken.{FormulaToken}
+use Rattle.pg_ltl.specs.declared.token.FormulaToken.TheVariants as tokens
 use Rattle.pg_ltl.specs.Formulas.{Formula, constant, proposition, bracket, one, two}
 
-abbrev pub lexemes : Formula → List Token
+abbrev pub lexemes : Formula → List FormulaToken
 lexemes (constant value) = tokens.Constant value ∷ []
 lexemes (proposition p) = tokens.Proposition p ∷ []
 lexemes (bracket f) = tokens.LeftParen ∷ (lexemes f ++ (tokens.RightParen ∷ []))
@@ -14,7 +14,7 @@ lexemes (one op f) = tokens.Before op ∷ lexemes f
 lexemes (two op f g) = lexemes f ++ (tokens.Between op ∷ lexemes g)
 
 -- a text is a formula, with or without a `;` after it
-abbrev pub text_lexemes : Formula → Bool → List Token
+abbrev pub text_lexemes : Formula → Bool → List FormulaToken
 text_lexemes f ended = lexemes f ++ (if ended then tokens.Between Also ∷ [] else [])
 
 -- How strongly an operator binds: `;` least, then `->` and `<->`, `|`, `xor`, `&`, and then U, R, W and M. Operators with an odd number
@@ -52,17 +52,17 @@ IsGrouped (one op f) = (8 ≤ rank f) × IsGrouped f
 IsGrouped (two op f g) = (left_rank op ≤ rank f) × (right_rank op ≤ rank g) × IsGrouped f × IsGrouped g
 
 -- the tokens are a text of this formula
-pub record AreTokensOf (ts : List Token) (f : Formula) : Type 0 where
+pub record AreTokensOf (ts : List FormulaToken) (f : Formula) : Type 0 where
   pub ended : Bool
   pub is : ts ≡ text_lexemes f ended
   pub grouped : IsGrouped f
 
 -- the tokens begin a text of some formula
-pub record BeginsOne (ts : List Token) : Type 0 where
-  pub more : List Token
+pub record BeginsOne (ts : List FormulaToken) : Type 0 where
+  pub more : List FormulaToken
   pub formula : Formula
   pub is : AreTokensOf (ts ++ more) formula
 
 -- the tokens begin no text of any formula
-abbrev pub BeginsNone : List Token → Type 0
-BeginsNone ts = (more : List Token) (f : Formula) → AreTokensOf (ts ++ more) f → ⊥
+abbrev pub BeginsNone : List FormulaToken → Type 0
+BeginsNone ts = (more : List FormulaToken) (f : Formula) → AreTokensOf (ts ++ more) f → ⊥

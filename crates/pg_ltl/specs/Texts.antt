@@ -2,8 +2,8 @@
 use Rattle.std.specs.Prelude.{◌≡◌, ℕ, suc, ◌+◌, ◌<◌, ◌≤◌, Option, Some, None, Bool, true, false, nat_lt, List, [], ◌∷◌, ◌++◌, length, if◌then◌else◌}
 use Rattle.std.specs.List.{fold, count_by}
 use Rattle.std.specs.Str.{bytes_eq}
-use Rattle.pg_ltl.specs.declared.token.Token.{Token}
-use Rattle.pg_ltl.specs.declared.token.Token.TheVariants.{Proposition, Before, Between}
+use Rattle.pg_ltl.specs.declared.token.FormulaToken.{FormulaToken}
+use Rattle.pg_ltl.specs.declared.token.FormulaToken.TheVariants.{Proposition, Before, Between}
 use Rattle.pg_ltl.specs.declared.fault.FormulaFault.{FormulaFault}
 use Rattle.pg_ltl.specs.declared.fault.FormulaFault.TheVariants.{OutOfMemory, Syntax, TooManyNames, TooManyOperators}
 use Rattle.pg_ltl.specs.Formulas.{Formula}
@@ -21,7 +21,7 @@ with_name w names = if nat_lt (number_of w names) (length names) then names else
 -- names in order of first appearance, and tokens
 pub record Noted : Type 0 where
   pub names : List (List ℕ)
-  pub tokens : List Token
+  pub tokens : List FormulaToken
 
 abbrev pub note : Noted → Word → Noted
 note n (sign t) = record { names = n.names; tokens = n.tokens ++ (t ∷ []) }
@@ -30,7 +30,7 @@ note n (name w) = record { names = with_name w n.names; tokens = n.tokens ++ (Pr
 abbrev pub noted : List Word → Noted
 noted words = fold note (record { names = []; tokens = [] }) words
 
-abbrev pub is_operator : Token → Bool
+abbrev pub is_operator : FormulaToken → Bool
 is_operator (Before op) = true
 is_operator (Between op) = true
 is_operator _ = false

@@ -7,12 +7,12 @@ use Rattle.pg_list_lemmas.specs.Bytes.{is_digit}
 use Rattle.pg_ltl.specs.declared.formula.Prefix.{Prefix}
 use Rattle.pg_ltl.specs.declared.formula.Prefix.TheVariants.{Not, Next, Finally, Globally}
 use Rattle.pg_ltl.specs.declared.formula.Infix.TheVariants.{Implies, Equivalent, Or, Exclusive, And, Until, Release, Weak, Strong, Also}
-use Rattle.pg_ltl.specs.declared.token.Token.{Token}
-use Rattle.pg_ltl.specs.declared.token.Token.TheVariants.{Constant, Before, Between, LeftParen, RightParen}
+use Rattle.pg_ltl.specs.declared.token.FormulaToken.{FormulaToken}
+use Rattle.pg_ltl.specs.declared.token.FormulaToken.TheVariants.{Constant, Before, Between, LeftParen, RightParen}
 
 pub data Word : Type 0 where
   name : List ℕ → Word
-  sign : Token → Word
+  sign : FormulaToken → Word
 
 abbrev pub is_space : ℕ → Bool
 is_space b = b == 9 || b == 10 || b == 13 || b == 32
@@ -35,7 +35,7 @@ unfoldable pub behind_blanks : List ℕ → List ℕ
 behind_blanks bytes = drop (prefix_len is_space bytes) bytes
 
 -- the words that aren't names
-unfoldable pub reserved : List ℕ → Option Token
+unfoldable pub reserved : List ℕ → Option FormulaToken
 reserved w =
     if bytes_eq w (codes "true") then Some (Constant true)
     else (if bytes_eq w (codes "false") then Some (Constant false)
@@ -47,7 +47,7 @@ reserved w =
     else (if bytes_eq w (codes "M") then Some (Between Strong)
     else None)))))))
 
-abbrev pub word_or : List ℕ → Option Token → Word
+abbrev pub word_or : List ℕ → Option FormulaToken → Word
 word_or w None = name w
 word_or w (Some t) = sign t
 
@@ -83,16 +83,16 @@ without b [] = []
 without b (c ∷ rest) = if c == b then rest else c ∷ rest
 
 -- the byte must come next
-unfoldable pub behind : ℕ → Token → List ℕ → Option (Token × List ℕ)
+unfoldable pub behind : ℕ → FormulaToken → List ℕ → Option (FormulaToken × List ℕ)
 behind b t [] = None
 behind b t (c ∷ rest) = if c == b then Some (t, rest) else None
 
 -- after `<`: `>`, or `->`, or `=>`
-unfoldable pub arrow_at : List ℕ → Option (Token × List ℕ)
+unfoldable pub arrow_at : List ℕ → Option (FormulaToken × List ℕ)
 arrow_at [] = None
 arrow_at (b ∷ rest) = if b == 62 then Some (Before Finally, rest) else (if b == 45 || b == 61 then behind 62 (Between Equivalent) rest else None)
 
-unfoldable pub single : ℕ → Option Token
+unfoldable pub single : ℕ → Option FormulaToken
 single b =
     if b == 33 || b == 126 then Some (Before Not)
     else (if b == 40 then Some LeftParen
@@ -103,7 +103,7 @@ single b =
     else (if b == 94 then Some (Between Exclusive)
     else None))))))
 
-unfoldable pub sign_at : ℕ → List ℕ → Option (Token × List ℕ)
+unfoldable pub sign_at : ℕ → List ℕ → Option (FormulaToken × List ℕ)
 sign_at b rest =
     if b == 38 then Some (Between And, without 38 rest)
     else (if b == 124 then Some (Between Or, without 124 rest)

@@ -18,4 +18,4 @@ pub use formula::{Formula, FormulaNode, Infix, Prefix};
 pub use normal::{NormalForm, NormalNode};
 pub use normalizing::normal_form;
 pub use reader::read_formula;
-pub use token::Token;
+pub use token::FormulaToken;

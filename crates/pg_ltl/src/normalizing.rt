@@ -12,12 +12,16 @@ ghost use Rattle.pg_ltl.specs.Mirrors.Views.{written, form};
 use crate::formula::{Formula, FormulaNode, Infix, Prefix};
 use crate::normal::{NormalForm, NormalNode};
 use crate::pair::{
-    Pair, at_next, disjunction, equivalence, negation, proposition, side, truth, until,
+    NegationPair, at_next, disjunction, equivalence, negation, proposition, side, truth, until,
 };
 use std::alloc::{AllocError, Global};
 
 /// Appends the parts for a prefix operator applied to `f`.
-fn prefixed(nodes: &mut Vec<NormalNode>, op: Prefix, f: Pair) -> Result<Pair, AllocError>
+fn prefixed(
+    nodes: &mut Vec<NormalNode>,
+    op: Prefix,
+    f: NegationPair,
+) -> Result<NegationPair, AllocError>
     requires ordered { AreNormalNodes nodes.old.items }
     requires f { IsWithin nodes.old.items f }
     ensures { IfOk result (λ pair. (a : formulas.Formula) → StandsFor nodes.old.items f a
@@ -39,7 +43,11 @@ fn prefixed(nodes: &mut Vec<NormalNode>, op: Prefix, f: Pair) -> Result<Pair, Al
 }
 
 /// Appends the parts for `f W g`.
-fn weak_until(nodes: &mut Vec<NormalNode>, f: Pair, g: Pair) -> Result<Pair, AllocError>
+fn weak_until(
+    nodes: &mut Vec<NormalNode>,
+    f: NegationPair,
+    g: NegationPair,
+) -> Result<NegationPair, AllocError>
     requires ordered { AreNormalNodes nodes.old.items }
     requires f { IsWithin nodes.old.items f }
     requires g { IsWithin nodes.old.items g }
@@ -52,7 +60,12 @@ fn weak_until(nodes: &mut Vec<NormalNode>, f: Pair, g: Pair) -> Result<Pair, All
 }
 
 /// Appends the parts for an infix operator applied to `f` and `g`.
-fn joined(nodes: &mut Vec<NormalNode>, op: Infix, f: Pair, g: Pair) -> Result<Pair, AllocError>
+fn joined(
+    nodes: &mut Vec<NormalNode>,
+    op: Infix,
+    f: NegationPair,
+    g: NegationPair,
+) -> Result<NegationPair, AllocError>
     requires ordered { AreNormalNodes nodes.old.items }
     requires f { IsWithin nodes.old.items f }
     requires g { IsWithin nodes.old.items g }
@@ -74,7 +87,11 @@ fn joined(nodes: &mut Vec<NormalNode>, op: Infix, f: Pair, g: Pair) -> Result<Pa
 }
 
 /// Appends the parts for `node`, whose operands are looked up in `pairs` by their places.
-fn added(nodes: &mut Vec<NormalNode>, pairs: &[Pair], node: FormulaNode) -> Result<Pair, AllocError>
+fn added(
+    nodes: &mut Vec<NormalNode>,
+    pairs: &[NegationPair],
+    node: FormulaNode,
+) -> Result<NegationPair, AllocError>
     requires ordered { AreNormalNodes nodes.old.items }
     requires within { AreWithin nodes.old.items pairs.now }
     requires reach { reach node ≤ length pairs.now }

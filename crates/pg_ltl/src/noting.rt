@@ -6,7 +6,7 @@ ghost use Rattle.pg_ltl.specs.Words.{sign};
 ghost use Rattle.pg_ltl.specs.Mirrors.Scan.{as_word};
 ghost use Rattle.pg_ltl.specs.Mirrors.Notes.{IsTextOf, noted_in, stop_at};
 
-use crate::token::Token;
+use crate::token::FormulaToken;
 use crate::word::{Word, behind_blanks, word_at};
 use std::alloc::{AllocError, Global};
 
@@ -14,7 +14,7 @@ use std::alloc::{AllocError, Global};
 #[derive(Drop)]
 pub struct Tokens {
     pub names: Vec<Vec<u8>>,
-    pub tokens: Vec<Token>,
+    pub tokens: Vec<FormulaToken>,
     pub offsets: Vec<usize>,
 }
 
@@ -51,7 +51,7 @@ fn number_of(names: &[Vec<u8>], name: &[u8]) -> usize
 }
 
 /// Returns the tokens with one more, which begins at the byte `offset`.
-fn pushed(mut tokens: Tokens, token: Token, offset: usize) -> Result<Tokens, AllocError>
+fn pushed(mut tokens: Tokens, token: FormulaToken, offset: usize) -> Result<Tokens, AllocError>
     ensures value { IfOk result (λ t. noted_in t ≡ note (noted_in tokens) (sign token)) }
     ensures offsets { IfOk result (λ t. t.offsets.items ≡ tokens.offsets.items ++ (offset ∷ [])) }
 {
@@ -93,7 +93,7 @@ fn noted(alloc: Global, tokens: Tokens, word: Word<'_>, offset: usize) -> Result
                 tokens: tokens.tokens,
                 offsets: tokens.offsets,
             };
-            Ok(pushed(tokens, Token::Proposition(number as u32), offset)?)
+            Ok(pushed(tokens, FormulaToken::Proposition(number as u32), offset)?)
         }
     }
 }

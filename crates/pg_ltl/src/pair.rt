@@ -10,23 +10,23 @@ use std::alloc::AllocError;
 
 /// The places of a formula and of its negation.
 #[derive(Clone, Copy)]
-pub struct Pair {
+pub struct NegationPair {
     pub yes: usize,
     pub no: usize,
 }
 
 /// Returns the places of the negation: the same two, swapped.
-pub fn negation(pair: Pair) -> Pair
+pub fn negation(pair: NegationPair) -> NegationPair
     ensures { result ≡ negated pair }
 {
-    Pair {
+    NegationPair {
         yes: pair.no,
         no: pair.yes,
     }
 }
 
 /// Returns the place of the formula if `positive`, or of its negation if not.
-pub fn side(pair: Pair, positive: bool) -> usize
+pub fn side(pair: NegationPair, positive: bool) -> usize
     ensures { result ≡ side pair positive }
 {
     if positive { pair.yes } else { pair.no }
@@ -44,27 +44,27 @@ fn put(nodes: &mut Vec<NormalNode>, node: NormalNode) -> Result<usize, AllocErro
 }
 
 /// Appends the constant that always holds, and its negation.
-pub fn truth(nodes: &mut Vec<NormalNode>) -> Result<Pair, AllocError>
+pub fn truth(nodes: &mut Vec<NormalNode>) -> Result<NegationPair, AllocError>
     requires ordered { AreNormalNodes nodes.old.items }
     ensures { IfOk result (λ pair. AddsPair nodes.old.items nodes.new.items pair top bottom) }
 {
     let yes = put(nodes, NormalNode::Top)?;
     let no = put(nodes, NormalNode::Bottom)?;
-    Ok(Pair { yes, no })
+    Ok(NegationPair { yes, no })
 }
 
 /// Appends a proposition and its negation.
-pub fn proposition(nodes: &mut Vec<NormalNode>, p: u32) -> Result<Pair, AllocError>
+pub fn proposition(nodes: &mut Vec<NormalNode>, p: u32) -> Result<NegationPair, AllocError>
     requires ordered { AreNormalNodes nodes.old.items }
     ensures { IfOk result (λ pair. AddsPair nodes.old.items nodes.new.items pair (literal p true) (literal p false)) }
 {
     let yes = put(nodes, NormalNode::Literal(p, true))?;
     let no = put(nodes, NormalNode::Literal(p, false))?;
-    Ok(Pair { yes, no })
+    Ok(NegationPair { yes, no })
 }
 
 /// Appends `X f` and its negation.
-pub fn at_next(nodes: &mut Vec<NormalNode>, f: Pair) -> Result<Pair, AllocError>
+pub fn at_next(nodes: &mut Vec<NormalNode>, f: NegationPair) -> Result<NegationPair, AllocError>
     requires ordered { AreNormalNodes nodes.old.items }
     requires f { IsWithin nodes.old.items f }
     ensures { IfOk result (λ pair. AddsPair nodes.old.items nodes.new.items pair
@@ -72,11 +72,15 @@ pub fn at_next(nodes: &mut Vec<NormalNode>, f: Pair) -> Result<Pair, AllocError>
 {
     let yes = put(nodes, NormalNode::Next(f.yes))?;
     let no = put(nodes, NormalNode::Next(f.no))?;
-    Ok(Pair { yes, no })
+    Ok(NegationPair { yes, no })
 }
 
 /// Appends `f | g` and its negation.
-pub fn disjunction(nodes: &mut Vec<NormalNode>, f: Pair, g: Pair) -> Result<Pair, AllocError>
+pub fn disjunction(
+    nodes: &mut Vec<NormalNode>,
+    f: NegationPair,
+    g: NegationPair,
+) -> Result<NegationPair, AllocError>
     requires ordered { AreNormalNodes nodes.old.items }
     requires f { IsWithin nodes.old.items f }
     requires g { IsWithin nodes.old.items g }
@@ -86,11 +90,15 @@ pub fn disjunction(nodes: &mut Vec<NormalNode>, f: Pair, g: Pair) -> Result<Pair
 {
     let yes = put(nodes, NormalNode::Either(f.yes, g.yes))?;
     let no = put(nodes, NormalNode::Both(f.no, g.no))?;
-    Ok(Pair { yes, no })
+    Ok(NegationPair { yes, no })
 }
 
 /// Appends `f U g` and its negation.
-pub fn until(nodes: &mut Vec<NormalNode>, f: Pair, g: Pair) -> Result<Pair, AllocError>
+pub fn until(
+    nodes: &mut Vec<NormalNode>,
+    f: NegationPair,
+    g: NegationPair,
+) -> Result<NegationPair, AllocError>
     requires ordered { AreNormalNodes nodes.old.items }
     requires f { IsWithin nodes.old.items f }
     requires g { IsWithin nodes.old.items g }
@@ -100,11 +108,15 @@ pub fn until(nodes: &mut Vec<NormalNode>, f: Pair, g: Pair) -> Result<Pair, Allo
 {
     let yes = put(nodes, NormalNode::Until(f.yes, g.yes))?;
     let no = put(nodes, NormalNode::Release(f.no, g.no))?;
-    Ok(Pair { yes, no })
+    Ok(NegationPair { yes, no })
 }
 
 /// Appends a formula that holds where `f` and `g` both hold or neither does, and returns its place.
-fn agreement(nodes: &mut Vec<NormalNode>, f: Pair, g: Pair) -> Result<usize, AllocError>
+fn agreement(
+    nodes: &mut Vec<NormalNode>,
+    f: NegationPair,
+    g: NegationPair,
+) -> Result<usize, AllocError>
     requires ordered { AreNormalNodes nodes.old.items }
     requires f { IsWithin nodes.old.items f }
     requires g { IsWithin nodes.old.items g }
@@ -119,7 +131,11 @@ fn agreement(nodes: &mut Vec<NormalNode>, f: Pair, g: Pair) -> Result<usize, All
 }
 
 /// Appends `f <-> g` and its negation.
-pub fn equivalence(nodes: &mut Vec<NormalNode>, f: Pair, g: Pair) -> Result<Pair, AllocError>
+pub fn equivalence(
+    nodes: &mut Vec<NormalNode>,
+    f: NegationPair,
+    g: NegationPair,
+) -> Result<NegationPair, AllocError>
     requires ordered { AreNormalNodes nodes.old.items }
     requires f { IsWithin nodes.old.items f }
     requires g { IsWithin nodes.old.items g }
@@ -131,5 +147,5 @@ pub fn equivalence(nodes: &mut Vec<NormalNode>, f: Pair, g: Pair) -> Result<Pair
 {
     let yes = agreement(nodes, f, g)?;
     let no = agreement(nodes, f, negation(g))?;
-    Ok(Pair { yes, no })
+    Ok(NegationPair { yes, no })
 }

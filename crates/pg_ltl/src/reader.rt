@@ -12,17 +12,17 @@ use crate::fault::FormulaFault;
 use crate::formula::Formula;
 use crate::noting::{Stop, Text, text_of};
 use crate::reading::{Misplaced, formula_of};
-use crate::token::Token;
+use crate::token::FormulaToken;
 use std::alloc::Global;
 
-fn is_operator(token: Token) -> bool
+fn is_operator(token: FormulaToken) -> bool
     ensures { result ≡ is_operator token }
 {
-    matches!(token, Token::Before(_) | Token::Between(_))
+    matches!(token, FormulaToken::Before(_) | FormulaToken::Between(_))
 }
 
 /// Counts the operators among the tokens.
-fn operators(tokens: &[Token]) -> usize
+fn operators(tokens: &[FormulaToken]) -> usize
     ensures { result ≡ count_by is_operator tokens.now }
 {
     tokens.iter().filter(|token| is_operator(**token)).count()

@@ -9,7 +9,7 @@ ghost use Rattle.pg_ltl.specs.Mirrors.Run.{may_wait, operand_at, opened};
 ghost use Rattle.pg_ltl.specs.Mirrors.Run.{over_turn, parse_at, reduced_at, taking, turn_at, view, whole_at};
 
 use crate::formula::{Formula, FormulaNode, Infix, Prefix};
-use crate::token::Token;
+use crate::token::FormulaToken;
 use std::alloc::{AllocError, Global};
 
 /// Why no formula could be read.
@@ -33,7 +33,7 @@ impl From<AllocError> for Misplaced {
 
 /// What is waiting for an operand.
 #[derive(Clone, Copy)]
-pub enum Frame {
+pub enum Pending {
     /// An open bracket.
     Paren,
     /// An operator that comes before its operand.
@@ -42,12 +42,12 @@ pub enum Frame {
     Left(Infix, usize),
 }
 
-/// A formula that is being read: its parts so far, the frames that are waiting for an operand, innermost last, and the place of the
+/// A formula that is being read: its parts so far, what is pending, innermost last, and the place of the
 /// operand just read, or `None` if an operand is due.
 #[derive(Drop)]
 pub struct Reading {
     pub nodes: Vec<FormulaNode>,
-    pub frames: Vec<Frame>,
+    pub pending: Vec<Pending>,
     pub operand: Option<usize>,
 }
 
@@ -73,41 +73,41 @@ fn left_rank(op: Infix) -> u32
     strength + strength % 2
 }
 
-/// Removes and returns the innermost frame.
-fn pop(frames: &mut Vec<Frame>) -> Option<Frame>
-    ensures { MatchOption result ((reverse frames.old.items ≡ []) × (reverse frames.new.items ≡ []))
-        (λ frame. reverse frames.old.items ≡ frame ∷ reverse frames.new.items) }
+/// Removes and returns the innermost of what is pending.
+fn pop(pending: &mut Vec<Pending>) -> Option<Pending>
+    ensures { MatchOption result ((reverse pending.old.items ≡ []) × (reverse pending.new.items ≡ []))
+        (λ innermost. reverse pending.old.items ≡ innermost ∷ reverse pending.new.items) }
 {
-    frames.pop()
+    pending.pop()
 }
 
 /// Returns the reading in which the part at `place` is the operand just read.
-fn over(nodes: Vec<FormulaNode>, frames: Vec<Frame>, place: usize) -> Reading
-    ensures { view result ≡ kept nodes.items frames.items (Some place) }
+fn over(nodes: Vec<FormulaNode>, pending: Vec<Pending>, place: usize) -> Reading
+    ensures { view result ≡ kept nodes.items pending.items (Some place) }
 {
     Reading {
         nodes,
-        frames,
+        pending,
         operand: Some(place),
     }
 }
 
-/// Returns the prefix operator that is waiting in the frame, if there is one.
-fn ahead(frame: Frame) -> Option<Prefix>
-    ensures { result ≡ ahead_of frame }
+/// Returns the prefix operator, if one is pending.
+fn ahead(innermost: Pending) -> Option<Prefix>
+    ensures { result ≡ ahead_of innermost }
 {
-    match frame {
-        Frame::Ahead(op) => Some(op),
+    match innermost {
+        Pending::Ahead(op) => Some(op),
         _ => None,
     }
 }
 
-/// Returns the operator that is waiting in the frame with its left operand, if there is one and it binds at least as strongly as `bound`.
-fn taking(bound: u32, frame: Frame) -> Option<(Infix, usize)>
-    ensures { result ≡ taking bound frame }
+/// Returns the pending operator with its left operand, if it is one between operands and binds at least as strongly as `bound`.
+fn taking(bound: u32, innermost: Pending) -> Option<(Infix, usize)>
+    ensures { result ≡ taking bound innermost }
 {
-    match frame {
-        Frame::Left(op, other) => if bound <= strength(op) {
+    match innermost {
+        Pending::Left(op, other) => if bound <= strength(op) {
             Some((op, other))
         } else {
             None
@@ -119,24 +119,24 @@ fn taking(bound: u32, frame: Frame) -> Option<(Infix, usize)>
 /// Returns the reading after an operand, which is the part at this place: the prefix operators before it take it.
 fn completed(
     mut nodes: Vec<FormulaNode>,
-    mut frames: Vec<Frame>,
+    mut pending: Vec<Pending>,
     operand: usize,
 ) -> Result<Reading, AllocError>
-    ensures { IfOk result (λ r. view r ≡ completed_at nodes.items (reverse frames.items) operand) }
+    ensures { IfOk result (λ r. view r ≡ completed_at nodes.items (reverse pending.items) operand) }
 {
     let mut place = operand;
-    'frames: loop {
-        match pop(&mut frames) {
-            None => return Ok(over(nodes, frames, place)),
-            Some(frame) => match ahead(frame) {
+    'pending: loop {
+        match pop(&mut pending) {
+            None => return Ok(over(nodes, pending, place)),
+            Some(innermost) => match ahead(innermost) {
                 Some(op) => {
                     let next = nodes.len();
                     nodes.push(FormulaNode::One(op, place))?;
                     place = next;
                 }
                 None => {
-                    frames.push(frame)?;
-                    return Ok(over(nodes, frames, place));
+                    pending.push(innermost)?;
+                    return Ok(over(nodes, pending, place));
                 }
             },
         }
@@ -148,24 +148,24 @@ fn completed(
 fn reduced(
     bound: u32,
     mut nodes: Vec<FormulaNode>,
-    mut frames: Vec<Frame>,
+    mut pending: Vec<Pending>,
     operand: usize,
 ) -> Result<Reading, AllocError>
-    ensures { IfOk result (λ r. view r ≡ reduced_at bound nodes.items (reverse frames.items) operand) }
+    ensures { IfOk result (λ r. view r ≡ reduced_at bound nodes.items (reverse pending.items) operand) }
 {
     let mut place = operand;
-    'frames: loop {
-        match pop(&mut frames) {
-            None => return Ok(over(nodes, frames, place)),
-            Some(frame) => match taking(bound, frame) {
+    'pending: loop {
+        match pop(&mut pending) {
+            None => return Ok(over(nodes, pending, place)),
+            Some(innermost) => match taking(bound, innermost) {
                 Some((op, other)) => {
                     let next = nodes.len();
                     nodes.push(FormulaNode::Two(op, other, place))?;
                     place = next;
                 }
                 None => {
-                    frames.push(frame)?;
-                    return Ok(over(nodes, frames, place));
+                    pending.push(innermost)?;
+                    return Ok(over(nodes, pending, place));
                 }
             },
         }
@@ -179,41 +179,41 @@ fn operand(mut reading: Reading, node: FormulaNode) -> Result<Reading, AllocErro
 {
     let place = reading.nodes.len();
     reading.nodes.push(node)?;
-    completed(reading.nodes, reading.frames, place)
+    completed(reading.nodes, reading.pending, place)
 }
 
-/// Returns the reading with one more waiting frame.
-fn opened(mut reading: Reading, frame: Frame) -> Result<Reading, AllocError>
-    ensures { IfOk result (λ r. view r ≡ opened (view reading) frame) }
+/// Returns the reading with one more pending.
+fn opened(mut reading: Reading, innermost: Pending) -> Result<Reading, AllocError>
+    ensures { IfOk result (λ r. view r ≡ opened (view reading) innermost) }
 {
-    reading.frames.push(frame)?;
+    reading.pending.push(innermost)?;
     Ok(Reading {
         nodes: reading.nodes,
-        frames: reading.frames,
+        pending: reading.pending,
         operand: None,
     })
 }
 
 /// Returns the reading after a token, where an operand is due, or `None` if the token is out of place.
 #[tactic(auto, unfolding(crate::specs::Mirrors::Run::due_turn))]
-fn due_turn(reading: Reading, token: Token) -> Result<Option<Reading>, AllocError>
+fn due_turn(reading: Reading, token: FormulaToken) -> Result<Option<Reading>, AllocError>
     ensures { IfOk result (λ r. option_map view r ≡ due_turn (view reading) token) }
 {
     match token {
-        Token::Proposition(p) => Ok(Some(operand(reading, FormulaNode::Proposition(p))?)),
-        Token::Constant(value) => Ok(Some(operand(reading, FormulaNode::Constant(value))?)),
-        Token::Before(op) => Ok(Some(opened(reading, Frame::Ahead(op))?)),
-        Token::LeftParen => Ok(Some(opened(reading, Frame::Paren)?)),
+        FormulaToken::Proposition(p) => Ok(Some(operand(reading, FormulaNode::Proposition(p))?)),
+        FormulaToken::Constant(value) => Ok(Some(operand(reading, FormulaNode::Constant(value))?)),
+        FormulaToken::Before(op) => Ok(Some(opened(reading, Pending::Ahead(op))?)),
+        FormulaToken::LeftParen => Ok(Some(opened(reading, Pending::Paren)?)),
         _ => Ok(None),
     }
 }
 
-/// Whether an operator may wait after these frames: a `;` inside brackets may not.
-fn may_wait(frames: &[Frame], op: Infix) -> bool
-    ensures { result ≡ may_wait (reverse frames.now) op }
+/// Whether an operator may wait after what is pending: a `;` inside brackets may not.
+fn may_wait(pending: &[Pending], op: Infix) -> bool
+    ensures { result ≡ may_wait (reverse pending.now) op }
 {
-    match (frames.last(), op) {
-        (Some(Frame::Paren), Infix::Also) => false,
+    match (pending.last(), op) {
+        (Some(Pending::Paren), Infix::Also) => false,
         _ => true,
     }
 }
@@ -224,9 +224,9 @@ fn between(op: Infix, reading: Reading) -> Result<Option<Reading>, AllocError>
     ensures { IfOk result (λ r. option_map view r ≡ between_at op (view reading)) }
 {
     match reading.operand {
-        Some(place) if may_wait(&reading.frames, op) => Ok(Some(opened(
+        Some(place) if may_wait(&reading.pending, op) => Ok(Some(opened(
             reading,
-            Frame::Left(op, place),
+            Pending::Left(op, place),
         )?)),
         _ => Ok(None),
     }
@@ -238,12 +238,12 @@ fn closed(reading: Reading) -> Result<Option<Reading>, AllocError>
     ensures { IfOk result (λ r. option_map view r ≡ closed_at (view reading)) }
 {
     let mut nodes = reading.nodes;
-    let mut frames = reading.frames;
-    match (pop(&mut frames), reading.operand) {
-        (Some(Frame::Paren), Some(place)) => {
+    let mut pending = reading.pending;
+    match (pop(&mut pending), reading.operand) {
+        (Some(Pending::Paren), Some(place)) => {
             let next = nodes.len();
             nodes.push(FormulaNode::Bracket(place))?;
-            Ok(Some(completed(nodes, frames, next)?))
+            Ok(Some(completed(nodes, pending, next)?))
         }
         _ => Ok(None),
     }
@@ -251,22 +251,26 @@ fn closed(reading: Reading) -> Result<Option<Reading>, AllocError>
 
 /// Returns the reading after a token, where the part at `place` was just read, or `None` if the token is out of place.
 #[tactic(auto, unfolding(crate::specs::Mirrors::Run::over_turn))]
-fn over_turn(reading: Reading, place: usize, token: Token) -> Result<Option<Reading>, AllocError>
+fn over_turn(
+    reading: Reading,
+    place: usize,
+    token: FormulaToken,
+) -> Result<Option<Reading>, AllocError>
     ensures { IfOk result (λ r. option_map view r ≡ over_turn (view reading) place token) }
 {
     match token {
-        Token::Between(op) => between(
+        FormulaToken::Between(op) => between(
             op,
-            reduced(left_rank(op), reading.nodes, reading.frames, place)?,
+            reduced(left_rank(op), reading.nodes, reading.pending, place)?,
         ),
-        Token::RightParen => closed(reduced(1, reading.nodes, reading.frames, place)?),
+        FormulaToken::RightParen => closed(reduced(1, reading.nodes, reading.pending, place)?),
         _ => Ok(None),
     }
 }
 
 /// Returns the reading after one more token, or `None` if the token is out of place.
 #[tactic(auto, unfolding(crate::specs::Mirrors::Run::turn_at))]
-fn turn(reading: Reading, token: Token) -> Result<Option<Reading>, AllocError>
+fn turn(reading: Reading, token: FormulaToken) -> Result<Option<Reading>, AllocError>
     ensures { IfOk result (λ r. option_map view r ≡ turn_at (view reading) token) }
 {
     match reading.operand {
@@ -280,30 +284,30 @@ fn turn(reading: Reading, token: Token) -> Result<Option<Reading>, AllocError>
 fn whole(reading: Reading) -> Option<(Vec<FormulaNode>, usize)>
     ensures { option_map (λ x. (x.0.items, x.1)) result ≡ whole_at (view reading) }
 {
-    let mut frames = reading.frames;
-    match (pop(&mut frames), reading.operand) {
+    let mut pending = reading.pending;
+    match (pop(&mut pending), reading.operand) {
         (None, Some(place)) => Some((reading.nodes, place)),
         _ => None,
     }
 }
 
 /// Returns the place of the operand before a `;`.
-fn also(frame: Frame) -> Option<usize>
-    ensures { result ≡ also_of frame }
+fn also(innermost: Pending) -> Option<usize>
+    ensures { result ≡ also_of innermost }
 {
-    match frame {
-        Frame::Left(Infix::Also, place) => Some(place),
+    match innermost {
+        Pending::Left(Infix::Also, place) => Some(place),
         _ => None,
     }
 }
 
 /// Returns the place of the formula before a `;`, if that is all that is waiting.
-fn ended(mut frames: Vec<Frame>) -> Option<usize>
-    ensures { result ≡ ended_place (reverse frames.items) }
+fn ended(mut pending: Vec<Pending>) -> Option<usize>
+    ensures { result ≡ ended_place (reverse pending.items) }
 {
-    let frame = pop(&mut frames)?;
-    match pop(&mut frames) {
-        None => also(frame),
+    let innermost = pop(&mut pending)?;
+    match pop(&mut pending) {
+        None => also(innermost),
         Some(_) => None,
     }
 }
@@ -314,22 +318,22 @@ fn finished(reading: Reading) -> Result<Option<(Vec<FormulaNode>, usize)>, Alloc
     ensures { IfOk result (λ r. option_map (λ x. (x.0.items, x.1)) r ≡ finish_at (view reading)) }
 {
     match reading.operand {
-        None => match ended(reading.frames) {
+        None => match ended(reading.pending) {
             Some(place) => Ok(Some((reading.nodes, place))),
             None => Ok(None),
         },
-        Some(place) => Ok(whole(reduced(0, reading.nodes, reading.frames, place)?)),
+        Some(place) => Ok(whole(reduced(0, reading.nodes, reading.pending, place)?)),
     }
 }
 
 /// Returns the parts of the formula that the tokens spell, with or without a `;` after it, and the place of the whole.
-fn parsed(alloc: Global, tokens: &[Token]) -> Result<(Vec<FormulaNode>, usize), Misplaced>
+fn parsed(alloc: Global, tokens: &[FormulaToken]) -> Result<(Vec<FormulaNode>, usize), Misplaced>
     ensures value { Gives (λ x. (x.0.items, x.1)) result (parse_at tokens.now) }
     ensures stops { IfErr result (StopsRun tokens.now) }
 {
     let mut reading = Reading {
         nodes: Vec::new(alloc),
-        frames: Vec::new(alloc),
+        pending: Vec::new(alloc),
         operand: None,
     };
     for (place, token) in tokens.iter().enumerate() {
@@ -346,7 +350,7 @@ fn parsed(alloc: Global, tokens: &[Token]) -> Result<(Vec<FormulaNode>, usize), 
 
 /// Returns the formula that the tokens spell, with or without a `;` after it. If they spell none, `At` gives the position of the first
 /// token that is out of place, or the number of tokens if they end too early.
-pub fn formula_of(alloc: Global, tokens: &[Token]) -> Result<Formula, Misplaced>
+pub fn formula_of(alloc: Global, tokens: &[FormulaToken]) -> Result<Formula, Misplaced>
     ensures found { IfOk result (λ f. AreTokensOf tokens.now (written f)) }
     ensures refused { IfErr result (IsMisread tokens.now) }
     ensures stops { IfErr result (StopsTokens tokens.now) }

@@ -4,7 +4,7 @@ use crate::formula::{Infix, Prefix};
 
 /// A token of a formula. Names are replaced by propositions.
 #[derive(Clone, Copy, Debug, PartialEq, Eq)]
-pub enum Token {
+pub enum FormulaToken {
     /// A proposition, by its number in the list of names.
     Proposition(u32),
     /// `true` or `false`.

@@ -8,13 +8,13 @@ ghost use Rattle.pg_ltl.specs.Words.{makes_name, operator_of, quoted_at, reserve
 ghost use Rattle.pg_ltl.specs.Mirrors.Scan.{as_word};
 
 use crate::formula::{Infix, Prefix};
-use crate::token::Token;
+use crate::token::FormulaToken;
 
 /// A word of a text, borrowed from it: a name, or a token that isn't a name.
 #[derive(Clone, Copy)]
 pub enum Word<'a> {
     Name(&'a [u8]),
-    Sign(Token),
+    Sign(FormulaToken),
 }
 
 /// Whether the byte is white space: tab, line feed, carriage return or space.
@@ -89,25 +89,25 @@ pub fn behind_blanks(bytes: &[u8]) -> &[u8]
 
 /// Returns the meaning of a bare word that isn't a name.
 #[tactic(auto, unfolding(crate::specs::Words::reserved))]
-fn reserved(word: &[u8]) -> Option<Token>
+fn reserved(word: &[u8]) -> Option<FormulaToken>
     ensures { result ≡ reserved word.now }
 {
     if word == b"true".as_slice() {
-        Some(Token::Constant(true))
+        Some(FormulaToken::Constant(true))
     } else if word == b"false".as_slice() {
-        Some(Token::Constant(false))
+        Some(FormulaToken::Constant(false))
     } else if word == b"xor".as_slice() {
-        Some(Token::Between(Infix::Exclusive))
+        Some(FormulaToken::Between(Infix::Exclusive))
     } else if word == b"U".as_slice() {
-        Some(Token::Between(Infix::Until))
+        Some(FormulaToken::Between(Infix::Until))
     } else if word == b"R".as_slice() {
-        Some(Token::Between(Infix::Release))
+        Some(FormulaToken::Between(Infix::Release))
     } else if word == b"V".as_slice() {
-        Some(Token::Between(Infix::Release))
+        Some(FormulaToken::Between(Infix::Release))
     } else if word == b"W".as_slice() {
-        Some(Token::Between(Infix::Weak))
+        Some(FormulaToken::Between(Infix::Weak))
     } else if word == b"M".as_slice() {
-        Some(Token::Between(Infix::Strong))
+        Some(FormulaToken::Between(Infix::Strong))
     } else {
         None
     }
@@ -159,7 +159,7 @@ fn lettered<'a>(byte: u8, rest: &'a [u8], bytes: &'a [u8]) -> (Word<'a>, &'a [u8
             if makes_name(rest) {
                 bare(bytes)
             } else {
-                (Word::Sign(Token::Before(op)), rest)
+                (Word::Sign(FormulaToken::Before(op)), rest)
             }
         }
         None => bare(bytes),
@@ -195,7 +195,7 @@ fn without(byte: u8, bytes: &[u8]) -> &[u8]
 
 /// Returns the token and the rest after this byte, or `None` if the bytes don't begin with it.
 #[tactic(auto, unfolding(crate::specs::Words::behind))]
-fn behind(byte: u8, token: Token, bytes: &[u8]) -> Option<(Token, &[u8])>
+fn behind(byte: u8, token: FormulaToken, bytes: &[u8]) -> Option<(FormulaToken, &[u8])>
     ensures { option_map (λ x. (x.0, x.1.now)) result ≡ behind byte token bytes.now }
 {
     match bytes {
@@ -206,43 +206,43 @@ fn behind(byte: u8, token: Token, bytes: &[u8]) -> Option<(Token, &[u8])>
 
 /// Returns the token that begins with a `<` just before these bytes, and the rest.
 #[tactic(auto, unfolding(crate::specs::Words::arrow_at))]
-fn arrow(bytes: &[u8]) -> Option<(Token, &[u8])>
+fn arrow(bytes: &[u8]) -> Option<(FormulaToken, &[u8])>
     ensures { option_map (λ x. (x.0, x.1.now)) result ≡ arrow_at bytes.now }
 {
     match bytes {
-        [b'>', rest @ ..] => Some((Token::Before(Prefix::Finally), rest)),
-        [b'-' | b'=', rest @ ..] => behind(b'>', Token::Between(Infix::Equivalent), rest),
+        [b'>', rest @ ..] => Some((FormulaToken::Before(Prefix::Finally), rest)),
+        [b'-' | b'=', rest @ ..] => behind(b'>', FormulaToken::Between(Infix::Equivalent), rest),
         _ => None,
     }
 }
 
 /// Returns the token that consists of this byte alone.
 #[tactic(auto, unfolding(crate::specs::Words::single))]
-fn single(byte: u8) -> Option<Token>
+fn single(byte: u8) -> Option<FormulaToken>
     ensures { result ≡ single byte }
 {
     match byte {
-        b'!' | b'~' => Some(Token::Before(Prefix::Not)),
-        b'(' => Some(Token::LeftParen),
-        b')' => Some(Token::RightParen),
-        b'0' => Some(Token::Constant(false)),
-        b'1' => Some(Token::Constant(true)),
-        b';' => Some(Token::Between(Infix::Also)),
-        b'^' => Some(Token::Between(Infix::Exclusive)),
+        b'!' | b'~' => Some(FormulaToken::Before(Prefix::Not)),
+        b'(' => Some(FormulaToken::LeftParen),
+        b')' => Some(FormulaToken::RightParen),
+        b'0' => Some(FormulaToken::Constant(false)),
+        b'1' => Some(FormulaToken::Constant(true)),
+        b';' => Some(FormulaToken::Between(Infix::Also)),
+        b'^' => Some(FormulaToken::Between(Infix::Exclusive)),
         _ => None,
     }
 }
 
 /// Returns the token that begins with this byte, which isn't a letter and is followed by `rest`, and what follows the token.
 #[tactic(auto, unfolding(crate::specs::Words::sign_at))]
-fn sign(byte: u8, rest: &[u8]) -> Option<(Token, &[u8])>
+fn sign(byte: u8, rest: &[u8]) -> Option<(FormulaToken, &[u8])>
     ensures { option_map (λ x. (x.0, x.1.now)) result ≡ sign_at byte rest.now }
 {
     match byte {
-        b'&' => Some((Token::Between(Infix::And), without(b'&', rest))),
-        b'|' => Some((Token::Between(Infix::Or), without(b'|', rest))),
-        b'-' | b'=' => behind(b'>', Token::Between(Infix::Implies), rest),
-        b'[' => behind(b']', Token::Before(Prefix::Globally), rest),
+        b'&' => Some((FormulaToken::Between(Infix::And), without(b'&', rest))),
+        b'|' => Some((FormulaToken::Between(Infix::Or), without(b'|', rest))),
+        b'-' | b'=' => behind(b'>', FormulaToken::Between(Infix::Implies), rest),
+        b'[' => behind(b']', FormulaToken::Before(Prefix::Globally), rest),
         b'<' => arrow(rest),
         _ => match single(byte) {
             Some(token) => Some((token, rest)),

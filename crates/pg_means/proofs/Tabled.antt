@@ -5,7 +5,7 @@ use Rattle.pg_means.proofs.Common.{cases_lt, get_or_past, Shape, MaxEven, Step, 
 use Rattle.pg_means.proofs.Common.{none_priority, deciding_cases, [], ◌∷◌}
 use Rattle.pg_means.proofs.Common.{place_priority, arrival_of, step, mod_below, pow_pos, ◌++◌, length-append, get_or_append_left}
 use Rattle.pg_means.proofs.Common.{get_or-append_seam}
-use Rattle.pg_means_look.specs.declared.automaton.Edge.{Edge}
+use Rattle.pg_means_look.specs.declared.automaton.ParityEdge.{ParityEdge}
 use Rattle.pg_means_look.specs.declared.automaton.ParityAutomaton.{ParityAutomaton}
 use Rattle.pg_means_look.specs.Mirrors.Tables.{edge_at}
 use Rattle.pg_means_look.specs.Mirrors.Views.{automaton_of}
@@ -38,7 +38,7 @@ step_low : (a : Automaton) (q l : ℕ) (o : Option Step) → IsAutomaton a → q
 step_low a q l None is lq ll e = omega arith
 step_low a q l (Some step) is lq ll e = given_low a step is (is.steps q l step lq ll e)
 
-module _ (a : Automaton) (edges : List Edge) (n : ℕ) (long : length edges ≡ (a.states + 1) * n) (are : AreEdges a n edges) where
+module _ (a : Automaton) (edges : List ParityEdge) (n : ℕ) (long : length edges ≡ (a.states + 1) * n) (are : AreEdges a n edges) where
   pub edge_of_pair : (q l : ℕ) → q < a.states + 1 → l < n → IsEdgeOf a (step_of a q (l % letters a)) (edge_at edges (q * n + l))
   edge_of_pair q l lq ll =
       let within : q * n + l < n * (a.states + 1) = mul-add-lt q n l (a.states + 1) lq ll in
@@ -85,7 +85,7 @@ completed_by a propositions b is as_many start long are = record {
           ]
       | inr past ↦
           let e : edge_at b.edges.items place ≡ record { target = 0; priority = 0 } = get_or_past b.edges.items place (record { target = 0; priority = 0 }) past in
-          let zero : (edge_at b.edges.items place).priority ≡ 0 = ap (λ (x : Edge). x.priority) e in omega arith
+          let zero : (edge_at b.edges.items place).priority ≡ 0 = ap (λ (x : ParityEdge). x.priority) e in omega arith
     ]
 
 pub edge_given : (a : Automaton) (q l target priority sets : ℕ) (shape : Shape) (met : List ℕ) → q < a.states
@@ -102,19 +102,19 @@ edge_given a q l target priority sets shape met inside found is_shape is_sets is
     })
 
 -- one edge more
-pub edges_more : (a : Automaton) (width place : ℕ) (edges : List Edge) (edge : Edge) → length edges ≡ place → AreEdges a width edges
+pub edges_more : (a : Automaton) (width place : ℕ) (edges : List ParityEdge) (edge : ParityEdge) → length edges ≡ place → AreEdges a width edges
     → IsEdgeOf a (step_of a (place / width) (place % width % letters a)) edge → AreEdges a width (edges ++ (edge ∷ []))
 edges_more a width place edges edge long are here at lt =
-    let none : Edge = record { target = 0; priority = 0 } in
+    let none : ParityEdge = record { target = 0; priority = 0 } in
     let size = length-append edges (edge ∷ []) in
     elim (cases_lt at (length edges)) [
       | inl inside ↦
-          subst (λ (e : Edge). IsEdgeOf a (step_of a (at / width) (at % width % letters a)) e)
+          subst (λ (e : ParityEdge). IsEdgeOf a (step_of a (at / width) (at % width % letters a)) e)
           (sym (get_or_append_left edges (edge ∷ []) none at inside)) (are at inside)
       | inr past ↦
           let is : at ≡ place = omega (arith, size, long, lt, past) in
           let there : edge_at (edges ++ (edge ∷ [])) at ≡ edge =
           ap (λ (k : ℕ). edge_at (edges ++ (edge ∷ [])) k) (is ∙ sym long) ∙ get_or-append_seam edges edge [] none in
-          subst (λ (e : Edge). IsEdgeOf a (step_of a (at / width) (at % width % letters a)) e) (sym there)
+          subst (λ (e : ParityEdge). IsEdgeOf a (step_of a (at / width) (at % width % letters a)) e) (sym there)
           (subst (λ (k : ℕ). IsEdgeOf a (step_of a (k / width) (k % width % letters a)) edge) (sym is) here)
     ]

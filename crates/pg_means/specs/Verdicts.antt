@@ -6,8 +6,8 @@ use Rattle.pg_hoa_automaton.specs.Formulas as conditions
 use Rattle.pg_hoa_automaton.specs.Words.{IsAccepted}
 use Rattle.pg_ltl.specs.Formulas.{Formula, Satisfies}
 use Rattle.pg_means_look.specs.Lassos.{lasso}
-use Rattle.pg_means.specs.declared.verdict.Verdict.{Verdict}
-use Rattle.pg_means.specs.declared.verdict.Verdict.TheVariants.{Same, Differs}
+use Rattle.pg_means.specs.declared.verdict.FormulaVerdict.{FormulaVerdict}
+use Rattle.pg_means.specs.declared.verdict.FormulaVerdict.TheVariants.{Same, Differs}
 
 -- a word over the given number of propositions: bit p of each letter says whether the proposition p holds
 abbrev pub IsWordOver : ℕ → (ℕ → ℕ) → Type 0
@@ -38,6 +38,6 @@ pub record AreApart (a : Automaton) (condition : conditions.Formula) (propositio
   pub satisfies : (accepted ≡ false) ↔ IsSatisfied places f (lasso list back)
 
 -- what the verdict says, under a condition of the automaton's shape
-abbrev pub Says : Automaton → conditions.Formula → ℕ → List ℕ → Formula → Verdict → Type 0
+abbrev pub Says : Automaton → conditions.Formula → ℕ → List ℕ → Formula → FormulaVerdict → Type 0
 Says a condition propositions places f Same = AreSame a condition propositions places f
 Says a condition propositions places f (Differs accepted list back) = AreApart a condition propositions places f accepted list.items back

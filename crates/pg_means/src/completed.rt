@@ -11,18 +11,18 @@ ghost use Rattle.pg_means.specs.Mirrors.Tables.{step_of, IsEdgeOf, AreEdges};
 
 use crate::fault::MeansFault;
 use pg_hoa_automaton::Automaton;
-use pg_means_look::{Edge, ParityAutomaton};
+use pg_means_look::{ParityAutomaton, ParityEdge};
 use pg_synth::priority_of;
 use std::alloc::{AllocError, Global};
 
 /// Returns the edge of a state at a letter. Where the automaton has none, and from the extra state after the last one, it leads to the
 /// extra state with priority 1.
-fn edge_of(automaton: &Automaton, state: u32, letter: u32) -> Edge
+fn edge_of(automaton: &Automaton, state: u32, letter: u32) -> ParityEdge
     requires { letter < letters automaton.now }
     ensures { IsEdgeOf automaton.now (step_of automaton.now state letter) result }
 {
     let states = automaton.states();
-    let end = Edge {
+    let end = ParityEdge {
         target: states,
         priority: 1,
     };
@@ -31,7 +31,7 @@ fn edge_of(automaton: &Automaton, state: u32, letter: u32) -> Edge
     }
     match automaton.next(state, letter) {
         None => end,
-        Some((target, met)) => Edge {
+        Some((target, met)) => ParityEdge {
             target,
             priority: priority_of(automaton.shape(), automaton.sets(), met),
         },
@@ -40,7 +40,7 @@ fn edge_of(automaton: &Automaton, state: u32, letter: u32) -> Edge
 
 /// Returns the edges of all states and of the extra state after the last one, at `width` letters each. The edge at a letter is the one at
 /// the part of the letter that has the automaton's own propositions.
-fn edges_of(alloc: Global, automaton: &Automaton, width: u32) -> Result<Vec<Edge>, AllocError>
+fn edges_of(alloc: Global, automaton: &Automaton, width: u32) -> Result<Vec<ParityEdge>, AllocError>
     requires some { 0 < width }
     requires few { (automaton.now.states + 1) * width < 2 ^ 32 }
     ensures long { IfOk result (λ edges. length edges.items ≡ (automaton.now.states + 1) * width) }

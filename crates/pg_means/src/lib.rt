@@ -9,4 +9,4 @@ mod verdict;
 
 pub use fault::MeansFault;
 pub use size::{ProductSizes, sizes};
-pub use verdict::{Verdict, means};
+pub use verdict::{FormulaVerdict, means};

@@ -20,7 +20,7 @@ use std::alloc::Global;
 
 /// Whether an automaton and a formula agree on every word.
 #[derive(Debug, Drop)]
-pub enum Verdict {
+pub enum FormulaVerdict {
     /// The automaton accepts exactly the words that satisfy the formula.
     Same,
     /// They differ on the lasso of these letters, which repeats those from the place at the end on for ever. If the flag is set, the
@@ -86,7 +86,7 @@ pub fn means(
     formula: &Formula,
     propositions: u32,
     places: &[u32],
-) -> Result<Verdict, MeansFault>
+) -> Result<FormulaVerdict, MeansFault>
     requires few { propositions ≤ 16 }
     requires places { All (λ place. place < propositions) places.now }
     ensures { IfOk result (λ verdict. (condition : conditions.Formula) → FitsShape condition automaton.now.sets automaton.now.shape
@@ -97,11 +97,11 @@ pub fn means(
     let complete = completed(alloc, automaton, propositions, places)?;
     let no = simple_form(alloc, formula, false)?;
     if let Some(lasso) = word_of(alloc, &complete, &no, 0)? {
-        return Ok(Verdict::Differs(true, lasso.letters, lasso.back));
+        return Ok(FormulaVerdict::Differs(true, lasso.letters, lasso.back));
     }
     let yes = simple_form(alloc, formula, true)?;
     if let Some(lasso) = word_of(alloc, &complete, &yes, 1)? {
-        return Ok(Verdict::Differs(false, lasso.letters, lasso.back));
+        return Ok(FormulaVerdict::Differs(false, lasso.letters, lasso.back));
     }
-    Ok(Verdict::Same)
+    Ok(FormulaVerdict::Same)
 }

@@ -3,7 +3,7 @@ use Rattle.std.proofs.Common.{◌≡◌, ℕ, ◌+◌, ◌*◌, ◌%◌, ◌<◌
 use Rattle.std.specs.Prelude.{All, Contains}
 use Rattle.pg_ltl.specs.NormalForms.{NormalForm}
 use Rattle.pg_ltl.specs.Tableaux.{choices_of}
-use Rattle.pg_means_look.specs.declared.automaton.Edge.{Edge}
+use Rattle.pg_means_look.specs.declared.automaton.ParityEdge.{ParityEdge}
 use Rattle.pg_means_look.specs.declared.automaton.ParityAutomaton.{ParityAutomaton}
 use Rattle.pg_means_look.specs.declared.certificate.Node as kept
 use Rattle.pg_means_look.specs.declared.certificate.Certificate as proposed
@@ -19,7 +19,7 @@ use Rattle.pg_means_look.proofs.Ranking.{pruning}
 use Rattle.pg_means_look.proofs.Steps.{within_same}
 
 pub goes_to : (a : ParityAutomaton) (c : proposed.Certificate) (forms : List NormalForm) (parity v l to : ℕ) (x : choice.Choice) (from next : kept.Node)
-    (edge : Edge) (set asks puts : List ℕ) → from ≡ node_at c.nodes.items v → next ≡ node_at c.nodes.items to
+    (edge : ParityEdge) (set asks puts : List ℕ) → from ≡ node_at c.nodes.items v → next ≡ node_at c.nodes.items to
     → edge ≡ edge_at a.edges.items (from.state * a.letters + l) → to < length c.nodes.items → next.state ≡ edge.target
     → set ≡ row_at c.sets.items next.set → asks ≡ x.asks.items → All (Contains asks) set → puts ≡ x.puts.items
     → ((forms : List NormalForm) (p : ℕ) → p % 2 ≡ parity → IsFine (certificate_of forms c) p edge.priority (parts forms puts) v to)
@@ -30,12 +30,12 @@ goes_to a c forms parity v l to x from next edge set asks puts is_from is_next i
     record {
       to = to;
       below = below;
-      state = sym (ap (λ (n : kept.Node). n.state) is_next) ∙ state ∙ ap (λ (e : Edge). e.target) at;
+      state = sym (ap (λ (n : kept.Node). n.state) is_next) ∙ state ∙ ap (λ (e : ParityEdge). e.target) at;
       fewer = within_parts forms (row_at c.sets.items (node_at c.nodes.items to).set) x.asks.items
           (within_same set asks (row_at c.sets.items (node_at c.nodes.items to).set) x.asks.items
           (is_set ∙ ap (λ (n : kept.Node). row_at c.sets.items n.set) is_next) is_asks within);
       fine = λ p good.
-          subst (λ (e : Edge). IsFine (certificate_of forms c) p e.priority (parts forms x.puts.items) v to) at
+          subst (λ (e : ParityEdge). IsFine (certificate_of forms c) p e.priority (parts forms x.puts.items) v to) at
           (subst (λ (ps : List ℕ). IsFine (certificate_of forms c) p edge.priority (parts forms ps) v to) is_puts (fine forms p good));
     }
 

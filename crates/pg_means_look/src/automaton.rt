@@ -5,7 +5,7 @@ ghost use Rattle.pg_means_look.specs.Mirrors.Tables.{edge_at, truth_at};
 
 /// Where a letter leads from a state, and the priority met on the way.
 #[derive(Clone, Copy, Debug, PartialEq, Eq)]
-pub struct Edge {
+pub struct ParityEdge {
     pub target: u32,
     pub priority: u32,
 }
@@ -19,20 +19,20 @@ pub struct ParityAutomaton {
     /// The state where a run starts.
     pub start: u32,
     /// The edges: the edge of a state and a letter is at `state * letters + letter`.
-    pub edges: Vec<Edge>,
+    pub edges: Vec<ParityEdge>,
     /// For each proposition, whether it holds at each letter.
     pub truths: Vec<Vec<bool>>,
 }
 
 impl ParityAutomaton {
     /// Returns the edge of the state at the letter; past the end of `edges`, one to state 0 with priority 0.
-    pub fn edge(&self, state: u32, letter: u32) -> Edge
+    pub fn edge(&self, state: u32, letter: u32) -> ParityEdge
         ensures { result ≡ edge_at self.now.edges.items (state * self.now.letters + letter) }
     {
         let place = state as usize * self.letters as usize + letter as usize;
         match self.edges.get(place) {
             Some(edge) => *edge,
-            None => Edge {
+            None => ParityEdge {
                 target: 0,
                 priority: 0,
             },

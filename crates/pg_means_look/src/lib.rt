@@ -12,7 +12,7 @@ mod places;
 mod pool;
 mod values;
 
-pub use automaton::{Edge, ParityAutomaton};
+pub use automaton::{ParityAutomaton, ParityEdge};
 pub use certificate::{Certificate, Level, Node};
 pub use choice::Choice;
 pub use lasso::is_shown;

@@ -11,5 +11,5 @@ mod size;
 mod tables;
 mod way;
 
-pub use proposal::{Lasso, Proposal, Proposed, SearchFault, propose};
+pub use proposal::{Lasso, Proposed, ProposedCertificate, SearchFault, propose};
 pub use size::{ProductSize, size_of};

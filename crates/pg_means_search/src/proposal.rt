@@ -33,12 +33,12 @@ impl<T: Drop> From<AllocFailed<T>> for SearchFault {
 
 /// A certificate, and the product that finds the certificate's nodes.
 #[derive(Drop)]
-pub struct Proposal {
+pub struct ProposedCertificate {
     pub certificate: Certificate,
     product: Product,
 }
 
-impl Finder for Proposal {
+impl Finder for ProposedCertificate {
     fn find(&self, state: u32, asks: &[usize]) -> Option<usize> {
         self.product.find(state, asks)
     }
@@ -48,7 +48,7 @@ impl Finder for Proposal {
 #[derive(Drop)]
 pub enum Proposed {
     /// No word satisfies the formula and has a greatest recurring priority of the parity.
-    Empty(Proposal),
+    Empty(ProposedCertificate),
     /// This word satisfies the formula and has a greatest recurring priority of the parity.
     Word(Lasso),
 }
@@ -211,7 +211,7 @@ pub fn propose(
         sets: sets_of(alloc, &product)?,
         levels,
     };
-    Ok(Proposed::Empty(Proposal {
+    Ok(Proposed::Empty(ProposedCertificate {
         certificate,
         product,
     }))

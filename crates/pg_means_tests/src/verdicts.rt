@@ -2,7 +2,7 @@
 
 use pg_hoa::read_automaton;
 use pg_ltl::read_formula;
-use pg_means::{Verdict, means};
+use pg_means::{FormulaVerdict, means};
 use pg_means_texts::{compare, write_compared};
 use std::alloc::Global;
 use std::test::Fail;
@@ -12,7 +12,7 @@ const UNTIL: &[u8] =
     b"HOA: v1 Start: 0 AP: 2 \"a\" \"b\" Acceptance: 1 Inf(0) --BODY-- State: 0 [0&!1] 0 [1] 1 State: 1 [t] 1 {0} --END--";
 
 /// Returns the verdict on the automaton and a formula whose propositions are a and b.
-fn verdict_on(alloc: Global, formula: &[u8]) -> Result<Verdict, Fail> {
+fn verdict_on(alloc: Global, formula: &[u8]) -> Result<FormulaVerdict, Fail> {
     let automaton = read_automaton(alloc, UNTIL)?;
     let (_, formula) = read_formula(alloc, formula)?;
     Ok(means(alloc, &automaton, &formula, 2, &[0, 1])?)
@@ -20,11 +20,11 @@ fn verdict_on(alloc: Global, formula: &[u8]) -> Result<Verdict, Fail> {
 
 #[test]
 fn verdicts_are_right(rt: HostRuntime) -> Result<(), Fail> {
-    assert!(rt; matches!(verdict_on(rt.alloc(), b"a U b")?, Verdict::Same));
+    assert!(rt; matches!(verdict_on(rt.alloc(), b"a U b")?, FormulaVerdict::Same));
     assert!(rt;
         matches!(
             verdict_on(rt.alloc(), b"a W b")?,
-            Verdict::Differs(false, _, _)
+            FormulaVerdict::Differs(false, _, _)
         )
     );
     Ok(())

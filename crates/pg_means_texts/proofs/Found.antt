@@ -13,8 +13,8 @@ use Rattle.pg_hoa.specs.AutomatonText as hoa
 use Rattle.pg_ltl.specs.Formulas.{Formula}
 use Rattle.pg_ltl.specs.Texts as ltl
 use Rattle.pg_means.specs.Verdicts.{Says}
-use Rattle.pg_means.specs.declared.verdict.Verdict.{Verdict}
-use Rattle.pg_means.specs.declared.verdict.Verdict.TheVariants.{Same, Differs}
+use Rattle.pg_means.specs.declared.verdict.FormulaVerdict.{FormulaVerdict}
+use Rattle.pg_means.specs.declared.verdict.FormulaVerdict.TheVariants.{Same, Differs}
 use Rattle.pg_means_texts.specs.Names.{all_names, places_of}
 use Rattle.pg_means.specs.declared.fault.MeansFault.{MeansFault}
 use Rattle.pg_means.specs.declared.fault.MeansFault.TheVariants.{OutOfMemory}
@@ -24,7 +24,7 @@ use Rattle.pg_means_texts.specs.declared.fault.CompareFault.TheVariants.{Means}
 use Rattle.pg_means_texts.specs.Printing.{comes_round}
 use Rattle.pg_means_texts.proofs.Named.{places_below}
 
-pub round_of : (a : Automaton) (condition : conditions.Formula) (n : ℕ) (places : List ℕ) (f : Formula) (verdict : Verdict)
+pub round_of : (a : Automaton) (condition : conditions.Formula) (n : ℕ) (places : List ℕ) (f : Formula) (verdict : FormulaVerdict)
     → Says a condition n places f verdict → comes_round verdict ≡ true
 round_of a condition n places f Same says = refl
 round_of a condition n places f (Differs accepted list back) says =
@@ -44,7 +44,7 @@ places_within propositions own names n places all count are =
     (subst (λ (ps : List ℕ). All (λ p. p < length (all_names propositions (texts own))) ps) same (places_below (texts own) propositions))
 
 pub compared_by : (first second : List ℕ) (a : Automaton) (own names : List (Vec ℕ Global)) (f : Formula) (n : ℕ) (places : List ℕ)
-    (verdict : Verdict) → hoa.Spelt first a → ltl.Spelt second (texts own) f → texts names ≡ all_names a.propositions (texts own)
+    (verdict : FormulaVerdict) → hoa.Spelt first a → ltl.Spelt second (texts own) f → texts names ≡ all_names a.propositions (texts own)
     → n ≡ length names → n ≤ 16 → places ≡ places_of (texts names) (texts own)
     → ((condition : conditions.Formula) → FitsShape condition a.sets a.shape → Says a condition n places f verdict)
     → IsCompared first second (texts names) verdict

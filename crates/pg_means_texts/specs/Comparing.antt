@@ -5,7 +5,7 @@ use Rattle.pg_hoa.specs.AutomatonText as hoa
 use Rattle.pg_ltl.specs.Formulas.{Formula}
 use Rattle.pg_ltl.specs.Texts as ltl
 use Rattle.pg_means.specs.Verdicts.{Says}
-use Rattle.pg_means.specs.declared.verdict.Verdict.{Verdict}
+use Rattle.pg_means.specs.declared.verdict.FormulaVerdict.{FormulaVerdict}
 use Rattle.pg_means.specs.declared.fault.MeansFault.TheVariants.{OutOfMemory}
 use Rattle.pg_means_texts.specs.Names.{all_names, places_of}
 use Rattle.pg_means_texts.specs.declared.fault.CompareFault.{CompareFault}
@@ -19,7 +19,7 @@ pub record ArePaired (first second : List ℕ) (a : Automaton) (own : List (List
 
 -- The texts spell an automaton and a formula, and these are the names of all their propositions, at most 16. Over words of these
 -- propositions the verdict is true: the automaton and the formula are the same, or they differ on the lasso that it gives.
-pub record IsCompared (first second : List ℕ) (names : List (List ℕ)) (verdict : Verdict) : Type 0 where
+pub record IsCompared (first second : List ℕ) (names : List (List ℕ)) (verdict : FormulaVerdict) : Type 0 where
   pub automaton : Automaton
   pub own : List (List ℕ)
   pub formula : Formula

@@ -1,8 +1,8 @@
 -- The text of a verdict.
 use Rattle.std.specs.Prelude.{ℕ, ◌==◌, ◌/◌, ◌%◌, nat_lt, Bool, true, List, [], ◌∷◌, ◌++◌, take, drop, length, codes, if◌then◌else◌}
 use Rattle.std.specs.List.{flat_map}
-use Rattle.pg_means.specs.declared.verdict.Verdict.{Verdict}
-use Rattle.pg_means.specs.declared.verdict.Verdict.TheVariants.{Same, Differs}
+use Rattle.pg_means.specs.declared.verdict.FormulaVerdict.{FormulaVerdict}
+use Rattle.pg_means.specs.declared.verdict.FormulaVerdict.TheVariants.{Same, Differs}
 
 -- the names of the propositions that hold at a letter, which has a bit for each, the lowest for the first
 abbrev pub holding : List (List ℕ) → ℕ → List (List ℕ)
@@ -25,13 +25,13 @@ abbrev pub taker : Bool → List ℕ
 taker accepted = if accepted then codes "the automaton accepts\n" else codes "the formula holds\n"
 
 -- `SAME`; or `DIFFERS`, which of the two takes the word, a line for each letter, a line `loop`, and the lines of the letters that repeat
-abbrev pub verdict_text : List (List ℕ) → Verdict → List ℕ
+abbrev pub verdict_text : List (List ℕ) → FormulaVerdict → List ℕ
 verdict_text names Same = codes "SAME\n"
 verdict_text names (Differs accepted letters back) =
     codes "DIFFERS\n" ++ (taker accepted ++ (letter_lines names (take back letters.items)
     ++ (codes "loop\n" ++ letter_lines names (drop back letters.items))))
 
 -- a lasso returns to the place of one of its letters
-abbrev pub comes_round : Verdict → Bool
+abbrev pub comes_round : FormulaVerdict → Bool
 comes_round Same = true
 comes_round (Differs accepted letters back) = nat_lt back (length letters.items)

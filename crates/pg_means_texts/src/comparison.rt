@@ -8,7 +8,7 @@ use crate::fault::CompareFault;
 use crate::names::{all_names, places_of};
 use pg_hoa::read_automaton;
 use pg_ltl::read_formula;
-use pg_means::{Verdict, means};
+use pg_means::{FormulaVerdict, means};
 use std::alloc::Global;
 
 /// The most propositions that an automaton and a formula may have together.
@@ -19,7 +19,7 @@ pub(crate) const MOST_PROPOSITIONS: usize = 16;
 #[derive(Debug, Drop)]
 pub struct Compared {
     pub names: Vec<Vec<u8>>,
-    pub verdict: Verdict,
+    pub verdict: FormulaVerdict,
     ghost round: { IsTrue (comes_round verdict) },
 }
 

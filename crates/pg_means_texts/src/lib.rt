@@ -9,6 +9,6 @@ mod writing;
 
 pub use comparison::{Compared, compare};
 pub use fault::CompareFault;
-pub use pg_means::{MeansFault, ProductSizes, Verdict};
+pub use pg_means::{FormulaVerdict, MeansFault, ProductSizes};
 pub use sizes::product_sizes;
 pub use writing::write_compared;

@@ -6,7 +6,7 @@ ghost use Rattle.std.specs.Io.KnownBytes.{Appends};
 ghost use Rattle.pg_means_texts.specs.Printing.{holding, spaced, letter_line, letter_lines, taker, verdict_text};
 
 use crate::comparison::Compared;
-use pg_means::Verdict;
+use pg_means::FormulaVerdict;
 use std::io::{self, Write};
 
 /// Writes a blank and then the name, if the letter's lowest bit is set.
@@ -87,8 +87,8 @@ pub fn write_compared<W: Write>(compared: &Compared, writer: &mut W) -> io::Resu
         (verdict_text (map (λ v. v.items) compared.now.names.items) compared.now.verdict)) }
 {
     match &compared.verdict {
-        Verdict::Same => writer.write_all(b"SAME\n"),
-        Verdict::Differs(accepted, letters, back) => {
+        FormulaVerdict::Same => writer.write_all(b"SAME\n"),
+        FormulaVerdict::Differs(accepted, letters, back) => {
             writer.write_all(b"DIFFERS\n")?;
             writer.write_all(taker(*accepted))?;
             write_letters(writer, &compared.names, &letters[..*back])?;

@@ -7,7 +7,7 @@
 
 use crate::proposal::most_looks;
 use pg_arena::Player;
-use pg_search_components::{Edges, Rows};
+use pg_search_components::{Edges, TargetRows};
 use pg_search_rows::{NONE, Side, at, count, put};
 use pg_search_winners::Graph;
 use std::alloc::{AllocError, Global};
@@ -23,7 +23,7 @@ pub(crate) struct Reduced {
     /// The vertex of the whole side for each vertex that is left.
     vertices: Vec<u32>,
     /// Where each vertex of the whole side leads, once edges pass vertices.
-    edges: Rows,
+    edges: TargetRows,
     /// The vertices that were taken out, in order.
     out: Vec<u32>,
 }
@@ -107,8 +107,8 @@ impl Reduced {
 }
 
 /// Returns where each vertex leads, once edges pass vertices.
-fn edges_of(alloc: Global, side: &Side) -> Result<Rows, AllocError> {
-    let mut edges = Rows::with_capacity(alloc, side.len() as usize)?;
+fn edges_of(alloc: Global, side: &Side) -> Result<TargetRows, AllocError> {
+    let mut edges = TargetRows::with_capacity(alloc, side.len() as usize)?;
     for v in 0..side.len() {
         let mut last = NONE;
         for w in side.graph.successors(v) {
@@ -144,7 +144,11 @@ fn pass(side: &Side, v: u32, w: u32) -> u32 {
 }
 
 /// Takes out vertices to which nothing leads, one after another. Returns them in order.
-fn take_out(alloc: Global, edges: &Rows, degrees: &mut [u32]) -> Result<Vec<u32>, AllocError> {
+fn take_out(
+    alloc: Global,
+    edges: &TargetRows,
+    degrees: &mut [u32],
+) -> Result<Vec<u32>, AllocError> {
     let mut out = Vec::new(alloc);
     for v in 0..count(degrees.len()) {
         if at(degrees, v) == 0 {
@@ -170,7 +174,7 @@ fn take_out(alloc: Global, edges: &Rows, degrees: &mut [u32]) -> Result<Vec<u32>
 fn draw(
     alloc: Global,
     whole: &Graph,
-    edges: &Rows,
+    edges: &TargetRows,
     vertices: &[u32],
     numbers: &[u32],
 ) -> Result<Graph, AllocError> {

@@ -11,4 +11,4 @@ mod rows;
 pub use arranging::{Arranged, Placed, arrange};
 pub use components::{Components, Edges};
 pub use numbers::{NONE, at, between, count, from, put};
-pub use rows::Rows;
+pub use rows::TargetRows;

@@ -6,13 +6,13 @@ use std::alloc::{AllocError, Global};
 
 /// Where the edges of each vertex lead, row by row.
 #[derive(Drop)]
-pub struct Rows {
+pub struct TargetRows {
     /// Where each row begins, and one more entry at the end.
     starts: Vec<u32>,
     targets: Vec<u32>,
 }
 
-impl Edges for Rows {
+impl Edges for TargetRows {
     #[inline(always)]
     fn targets(&self, v: u32) -> &[u32] {
         let to = at(&self.starts, v.saturating_add(1));
@@ -25,12 +25,12 @@ impl Edges for Rows {
     }
 }
 
-impl Rows {
+impl TargetRows {
     /// Makes an empty list of rows, with room for `rows` rows.
-    pub fn with_capacity(alloc: Global, rows: usize) -> Result<Rows, AllocError> {
+    pub fn with_capacity(alloc: Global, rows: usize) -> Result<TargetRows, AllocError> {
         let mut starts = Vec::with_capacity(alloc, rows.saturating_add(1))?;
         starts.push(0)?;
-        Ok(Rows {
+        Ok(TargetRows {
             starts,
             targets: Vec::new(alloc),
         })

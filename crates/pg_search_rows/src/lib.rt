@@ -13,5 +13,5 @@ mod sweeps;
 
 pub use numbers::{NONE, at, count, is_marked, item, put};
 pub use row_claim::RowClaim;
-pub use rows::{Node, Rows, TOP, ZEROS};
+pub use rows::{RowNode, Rows, TOP, ZEROS};
 pub use side::{Side, State};

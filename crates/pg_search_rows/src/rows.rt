@@ -16,7 +16,7 @@ pub const ZEROS: u32 = 0;
 const FIRST_PLACES: usize = 64;
 
 #[derive(Clone, Copy)]
-pub struct Node {
+pub struct RowNode {
     pub parent: u32,
     /// The odd priority of the last component above 0, and that component.
     pub priority: u32,
@@ -29,8 +29,8 @@ pub struct Node {
     jump: u32,
 }
 
-impl Node {
-    const ROOT: Node = Node {
+impl RowNode {
+    const ROOT: RowNode = RowNode {
         parent: ZEROS,
         priority: u32::MAX,
         component: 0,
@@ -43,7 +43,7 @@ impl Node {
 
 #[derive(Drop)]
 pub struct Rows {
-    nodes: Vec<Node>,
+    nodes: Vec<RowNode>,
     /// The rows whose last component is 1, at places that their parents and priorities determine.
     table: Vec<u32>,
 }
@@ -52,7 +52,7 @@ impl Rows {
     /// Makes rows of which only the zeros are there.
     pub fn new(alloc: Global) -> Result<Rows, AllocError> {
         Ok(Rows {
-            nodes: vec![in alloc; Node::ROOT; 1]?,
+            nodes: vec![in alloc; RowNode::ROOT; 1]?,
             table: vec![in alloc; ZEROS; FIRST_PLACES]?,
         })
     }
@@ -63,11 +63,11 @@ impl Rows {
     }
 
     #[inline(always)]
-    pub fn node(&self, row: u32) -> Node {
+    pub fn node(&self, row: u32) -> RowNode {
         if (row as usize) < self.nodes.len() {
             self.nodes[row as usize]
         } else {
-            Node::ROOT
+            RowNode::ROOT
         }
     }
 
@@ -199,15 +199,15 @@ impl Rows {
         self.add_more(row, node)
     }
 
-    fn add(&mut self, node: Node) -> Result<u32, AllocError> {
+    fn add(&mut self, node: RowNode) -> Result<u32, AllocError> {
         let row = count(self.nodes.len());
         self.nodes.push(node)?;
         Ok(row)
     }
 
     /// Adds the row with the last component one greater, and returns it.
-    fn add_more(&mut self, row: u32, node: Node) -> Result<u32, AllocError> {
-        let more = self.add(Node {
+    fn add_more(&mut self, row: u32, node: RowNode) -> Result<u32, AllocError> {
+        let more = self.add(RowNode {
             component: node.component.saturating_add(1),
             less: row,
             more: ZEROS,
@@ -248,7 +248,7 @@ impl Rows {
         let far = self.node(parent.jump);
         let further = self.node(far.jump);
         let is_even = parent.depth.wrapping_sub(far.depth) == far.depth.wrapping_sub(further.depth);
-        let child = self.add(Node {
+        let child = self.add(RowNode {
             parent: row,
             priority,
             component: 1,

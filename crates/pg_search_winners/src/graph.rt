@@ -1,7 +1,7 @@
 //! Graphs with priorities and owners.
 
 use pg_arena::{Game, Player, Vertex};
-use pg_search_components::{Edges, NONE, Rows, at, between, count, put};
+use pg_search_components::{Edges, NONE, TargetRows, at, between, count, put};
 use std::alloc::{AllocError, Global};
 
 /// Vertices with priorities and owners, and their successors and predecessors row by row. Players are numbers here: Even is 0 and
@@ -16,7 +16,7 @@ pub struct Graph {
     rows: Vec<u32>,
     successors: Vec<u32>,
     /// The predecessors of each vertex, in rising order.
-    predecessors: Rows,
+    predecessors: TargetRows,
     /// The vertices that had an edge to themselves.
     loops: Vec<u32>,
 }
@@ -109,7 +109,7 @@ impl Graph {
             priorities,
             rows,
             successors,
-            predecessors: Rows::with_capacity(alloc, 0)?,
+            predecessors: TargetRows::with_capacity(alloc, 0)?,
             loops: Vec::new(alloc),
         };
         graph.take_loops()?;

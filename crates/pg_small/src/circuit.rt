@@ -3,8 +3,8 @@
 use crate::codes::Codes;
 use crate::freedom::Freedom;
 use crate::making::Want;
-use crate::net::{Gate, Net, flip};
-use crate::numbers::{Found, NONE, at, has_bit, item, put, spend};
+use crate::net::{Conjunction, Net, flip};
+use crate::numbers::{Allocated, NONE, at, has_bit, item, put, spend};
 use std::alloc::Global;
 
 /// The most gates that a function may have.
@@ -12,27 +12,27 @@ const MAX_GATES: u32 = 1 << 10;
 
 /// A net with literals: the outputs, and then the next values of the latches.
 #[derive(Drop)]
-pub struct Circuit {
+pub struct WantedNet {
     pub net: Net,
     pub literals: Vec<u32>,
     /// What is wanted of each literal.
     pub wants: Vec<Want>,
 }
 
-impl Circuit {
+impl WantedNet {
     pub fn size(&self) -> usize {
         (self.net.len() as usize).saturating_add(self.literals.len())
     }
 
     /// Appends the gates to `gates`, with all variables from `from` on made greater by `by`. Returns the literals there.
-    pub fn append(&self, gates: &mut Vec<Gate>, from: u32, by: u32) -> Found<Vec<u32>> {
+    pub fn append(&self, gates: &mut Vec<Conjunction>, from: u32, by: u32) -> Allocated<Vec<u32>> {
         let shifted = |literal: u32| {
             let more = if literal / 2 < from { 0 } else { by };
             literal.saturating_add(more.saturating_mul(2))
         };
         for signal in self.net.given..self.net.len() {
-            let Gate { left, right } = self.net.gate(signal);
-            gates.push(Gate {
+            let Conjunction { left, right } = self.net.gate(signal);
+            gates.push(Conjunction {
                 left: shifted(left),
                 right: shifted(right),
             })?;
@@ -62,7 +62,7 @@ pub fn circuit_of(
     codes: &Codes,
     (order, bits): (&[u32], u32),
     looks: &mut u64,
-) -> Found<Option<Circuit>> {
+) -> Allocated<Option<WantedNet>> {
     let alloc = *free.nexts.allocator();
     let given = given_values(alloc, free, codes)?;
     let mut draft = Draft {
@@ -86,7 +86,7 @@ pub fn circuit_of(
     for literal in &literals {
         wants.push(net.want_of(*literal)?)?;
     }
-    Ok(Some(Circuit {
+    Ok(Some(WantedNet {
         net,
         literals,
         wants,
@@ -94,7 +94,7 @@ pub fn circuit_of(
 }
 
 /// Returns the values of signal 0, the inputs and the bits of codes at all points. The last point is repeated until a word is full.
-fn given_values(alloc: Global, free: &Freedom, codes: &Codes) -> Found<Vec<u64>> {
+fn given_values(alloc: Global, free: &Freedom, codes: &Codes) -> Allocated<Vec<u64>> {
     let mut given = Vec::new(alloc);
     for signal in 0..free.inputs.saturating_add(codes.bits).saturating_add(1) {
         for place in 0..free.points().div_ceil(64).saturating_mul(64) {
@@ -112,7 +112,7 @@ fn given_values(alloc: Global, free: &Freedom, codes: &Codes) -> Found<Vec<u64>>
 }
 
 /// Appends the bit of a place to words.
-fn push(words: &mut Vec<u64>, place: u32, bit: bool) -> Found<()> {
+fn push(words: &mut Vec<u64>, place: u32, bit: bool) -> Allocated<()> {
     if place % 64 == 0 {
         words.push(0)?;
     }
@@ -133,7 +133,7 @@ impl Draft<'_> {
     }
 
     /// Makes a bit, with either value where both are free, and drops the moves in which it has the other value.
-    fn choose(&mut self, bit: u32) -> Found<Option<u32>> {
+    fn choose(&mut self, bit: u32) -> Allocated<Option<u32>> {
         if !spend(&mut self.net.looks, self.left.len() as u64) {
             return Ok(None);
         }

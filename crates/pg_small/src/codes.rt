@@ -1,6 +1,6 @@
 //! Codes of states: parts of a machine that go on independently have bits of their own.
 
-use crate::numbers::{Found, NONE, at, count, logarithm, put, spend, width};
+use crate::numbers::{Allocated, NONE, at, count, logarithm, put, spend, width};
 use std::alloc::Global;
 
 /// The most classes that a part may have.
@@ -22,7 +22,7 @@ pub struct Codes {
 impl Codes {
     /// Returns codes that begin with parts of few classes, as long as these tell much. The remaining bits count the states that are alike
     /// so far. `None` if there is no part though there are edges, or if the codes have more than `MAX_BITS` bits.
-    pub fn new(columns: Columns, looks: &mut u64) -> Found<Option<Codes>> {
+    pub fn new(columns: Columns, looks: &mut u64) -> Allocated<Option<Codes>> {
         let Columns { alloc, states, .. } = columns;
         let mut codes = Codes {
             bits: 0,
@@ -61,7 +61,7 @@ impl Codes {
     }
 
     /// Returns the codes with a number of each state added to them.
-    fn with(&self, numbers: &[u32]) -> Found<Codes> {
+    fn with(&self, numbers: &[u32]) -> Allocated<Codes> {
         let mut of = self.of.clone()?;
         let mut most = 0;
         for (code, number) in of.iter_mut().zip(numbers) {
@@ -84,7 +84,7 @@ impl Codes {
     }
 
     /// Returns a copy of the codes.
-    pub fn copied(&self) -> Found<Codes> {
+    pub fn copied(&self) -> Allocated<Codes> {
         Ok(Codes {
             bits: self.bits,
             of: self.of.clone()?,
@@ -92,7 +92,7 @@ impl Codes {
     }
 
     /// Returns the place of each state among those of the same code.
-    fn places(&self, alloc: Global) -> Found<Vec<u32>> {
+    fn places(&self, alloc: Global) -> Allocated<Vec<u32>> {
         let mut order = Vec::new(alloc);
         for (state, code) in self.of.iter().enumerate() {
             order.push((*code, count(state)))?;
@@ -121,7 +121,7 @@ pub struct Columns<'a> {
 
 impl Columns<'_> {
     /// Returns the class of each state in a part that tells two states apart, or `None` if too many classes are left.
-    fn part(self, apart: (u32, u32), looks: &mut u64) -> Found<Option<Vec<u32>>> {
+    fn part(self, apart: (u32, u32), looks: &mut u64) -> Allocated<Option<Vec<u32>>> {
         let mut classes = Vec::new(self.alloc);
         for state in 0..self.states {
             classes.push(state)?;
@@ -152,7 +152,7 @@ impl Columns<'_> {
 
     /// Merges classes until each class leads to one class by each letter. Returns false if the two states of `apart` come into one class,
     /// or that takes too long.
-    fn close(self, classes: &mut [u32], apart: (u32, u32), looks: &mut u64) -> Found<bool> {
+    fn close(self, classes: &mut [u32], apart: (u32, u32), looks: &mut u64) -> Allocated<bool> {
         for _ in 0..classes.len() {
             let mut changes = false;
             for column in self.edges.chunks(self.states.max(1) as usize) {

@@ -1,7 +1,7 @@
 //! States of an automaton that the controller can do without.
 
 use crate::dice::Dice;
-use crate::numbers::{Found, count, is_marked, power, put, spend};
+use crate::numbers::{Allocated, count, is_marked, power, put, spend};
 use crate::steps::Steps;
 
 /// How many orders are tried.
@@ -9,7 +9,7 @@ const ORDERS: u32 = 10;
 
 /// Of the moves that are left, takes away those to states that the controller can do without: states are left out one after another, in
 /// several orders, and the fewest stay.
-pub fn keep_few(steps: &Steps, moves: &mut [bool], looks: &mut u64) -> Found<()> {
+pub fn keep_few(steps: &Steps, moves: &mut [bool], looks: &mut u64) -> Allocated<()> {
     let alloc = steps.alloc;
     let mut order = Vec::new(alloc);
     for state in (0..steps.states).rev() {

@@ -1,11 +1,11 @@
 //! The moves that may be made in place of a machine's moves.
 
-use crate::game::Measures;
+use crate::game::WinningRows;
 use crate::machine::Machine;
-use crate::numbers::{Found, NONE, at, count, item, power, put, spend};
-use crate::product::{Product, places_of};
+use crate::numbers::{Allocated, NONE, at, count, item, power, put, spend};
+use crate::product::{MachineProduct, places_of};
 use crate::steps::Steps;
-use pg_search_components::{Edges, Rows};
+use pg_search_components::{Edges, TargetRows};
 use std::ops::Range;
 
 /// The moves at each point, in ascending order of output letters. Whichever are chosen, every run is accepted, since the measure of each
@@ -41,7 +41,7 @@ impl Freedom {
         (states, inputs, outputs): (u32, u32, u32),
         letters: Vec<u32>,
         nexts: Vec<u32>,
-    ) -> Found<Freedom> {
+    ) -> Allocated<Freedom> {
         let alloc = *nexts.allocator();
         let mut firsts = Vec::new(alloc);
         for point in 0..=states.wrapping_shl(inputs) {
@@ -59,7 +59,7 @@ impl Freedom {
     }
 
     /// Returns the moves that may be made in place of a machine's moves, or `None` if there is too much to look at.
-    pub fn of(machine: &Machine, steps: &Steps, looks: &mut u64) -> Found<Option<Freedom>> {
+    pub fn of(machine: &Machine, steps: &Steps, looks: &mut u64) -> Allocated<Option<Freedom>> {
         let Some(mut looking) = Looking::new(machine, steps, looks)? else {
             return Ok(None);
         };
@@ -101,21 +101,27 @@ impl Freedom {
 #[derive(Drop)]
 struct Looking<'a> {
     steps: &'a Steps,
-    product: Product,
+    product: MachineProduct,
     /// The pairs of each of the machine's states; `holders` has the pairs of each of the automaton's.
-    pairs: Rows,
-    holders: Rows,
+    pairs: TargetRows,
+    holders: TargetRows,
     /// The measures of the pairs.
-    measures: Measures,
+    measures: WinningRows,
 }
 
 impl<'a> Looking<'a> {
-    fn new(machine: &Machine, steps: &'a Steps, looks: &mut u64) -> Found<Option<Looking<'a>>> {
-        let Some(product) = Product::of(machine, steps, &[(0, steps.start)], u32::MAX, looks)?
+    fn new(machine: &Machine, steps: &'a Steps, looks: &mut u64) -> Allocated<Option<Looking<'a>>> {
+        let Some(product) = MachineProduct::of(
+            machine,
+            steps,
+            &[(0, steps.start)],
+            u32::MAX,
+            looks,
+        )?
         else {
             return Ok(None);
         };
-        let Some(measures) = Measures::of(&product.steps(machine, steps)?, looks)? else {
+        let Some(measures) = WinningRows::of(&product.steps(machine, steps)?, looks)? else {
             return Ok(None);
         };
         Ok(Some(Looking {
@@ -137,7 +143,7 @@ impl<'a> Looking<'a> {
     }
 
     /// Returns a next state with which a letter serves beside each state of the automaton, or `NONE`.
-    fn next(&mut self, state: u32, letter: u32, looks: &mut u64) -> Found<u32> {
+    fn next(&mut self, state: u32, letter: u32, looks: &mut u64) -> Allocated<u32> {
         for place in 0..u32::MAX {
             let next = self.holder(state, letter, place);
             let mut serves = true;

@@ -1,7 +1,7 @@
 //! The game of steps, in which the controller answers input letters, and the measures of the states from which it wins.
 
-use crate::numbers::{Found, NONE, at, count, is_marked, power, put, spend};
-use crate::steps::{Step, Steps};
+use crate::numbers::{Allocated, NONE, at, count, is_marked, power, put, spend};
+use crate::steps::{GameStep, Steps};
 use pg_arena::Player;
 use pg_search_rows::{Rows, ZEROS};
 use pg_search_winners::{Graph, find_winners};
@@ -10,14 +10,14 @@ use std::mem;
 
 /// The rows of the states from which the controller wins, and `NONE` for the others.
 #[derive(Drop)]
-pub struct Measures {
+pub struct WinningRows {
     pub rows: Rows,
     pub found: Vec<u32>,
 }
 
-impl Measures {
+impl WinningRows {
     /// Returns the measures of the game of steps, or `None` if that takes too long.
-    pub fn of(steps: &Steps, looks: &mut u64) -> Found<Option<Measures>> {
+    pub fn of(steps: &Steps, looks: &mut u64) -> Allocated<Option<WinningRows>> {
         let graph = graph_of(steps)?;
         let winners = find_winners(steps.alloc, &graph)?;
         let mut won = Vec::new(steps.alloc);
@@ -26,7 +26,7 @@ impl Measures {
                 won.push(count(v))?;
             }
         }
-        let mut measures = Measures {
+        let mut measures = WinningRows {
             rows: Rows::new(steps.alloc)?,
             found: vec![in steps.alloc; NONE; graph.len() as usize]?,
         };
@@ -41,7 +41,7 @@ impl Measures {
         won: Vec<u32>,
         choices: &[u32],
         looks: &mut u64,
-    ) -> Found<bool> {
+    ) -> Allocated<bool> {
         let alloc = *won.allocator();
         // a vertex that isn't won never waits again
         let mut waits = vec![in alloc; true; graph.len() as usize]?;
@@ -78,7 +78,7 @@ impl Measures {
     }
 
     /// Returns the least row that serves a vertex, given the rows of its successors.
-    fn lifted(&mut self, graph: &Graph, v: u32, choices: &[u32]) -> Found<u32> {
+    fn lifted(&mut self, graph: &Graph, v: u32, choices: &[u32]) -> Allocated<u32> {
         let mut most = at(&self.found, at(choices, v));
         for w in graph.successors(v) {
             let row = at(&self.found, *w);
@@ -90,7 +90,7 @@ impl Measures {
     }
 
     /// Whether a step from a state serves the state's row.
-    pub fn serves(&mut self, state: u32, step: Step) -> Found<bool> {
+    pub fn serves(&mut self, state: u32, step: GameStep) -> Allocated<bool> {
         let row = at(&self.found, state);
         let there = at(&self.found, step.target);
         let arrival = self.rows.step(there, step.priority)?;
@@ -99,7 +99,7 @@ impl Measures {
 }
 
 /// Whether the controller wins from each state.
-pub fn loses_none(steps: &Steps, looks: &mut u64) -> Found<bool> {
+pub fn loses_none(steps: &Steps, looks: &mut u64) -> Allocated<bool> {
     let graph = graph_of(steps)?;
     spend(looks, (graph.edges() as u64).saturating_mul(8));
     let winners = find_winners(steps.alloc, &graph)?;
@@ -109,8 +109,8 @@ pub fn loses_none(steps: &Steps, looks: &mut u64) -> Found<bool> {
 
 /// Takes away the steps to states where the controller loses. Returns for each place whether its step serves the measures: a controller
 /// that takes only such steps wins. `None` if the controller loses the start, or measures take too long.
-pub fn winning_moves(steps: &mut Steps, looks: &mut u64) -> Found<Option<Vec<bool>>> {
-    let measures = Measures::of(steps, looks)?;
+pub fn winning_moves(steps: &mut Steps, looks: &mut u64) -> Allocated<Option<Vec<bool>>> {
+    let measures = WinningRows::of(steps, looks)?;
     let Some(mut measures) = measures.filter(|it| at(&it.found, steps.start) != NONE) else {
         return Ok(None);
     };
@@ -120,7 +120,7 @@ pub fn winning_moves(steps: &mut Steps, looks: &mut u64) -> Found<Option<Vec<boo
         let step = steps.at(place);
         moves.push(measures.serves(state, step)?)?;
         if at(&measures.found, step.target) == NONE {
-            put(&mut steps.table, place, Step::NONE);
+            put(&mut steps.table, place, GameStep::NONE);
         }
     }
     Ok(Some(moves))
@@ -128,7 +128,7 @@ pub fn winning_moves(steps: &mut Steps, looks: &mut u64) -> Found<Option<Vec<boo
 
 /// Returns the graph of the game: states, answers by points, the end of runs that have no edge, and then arrivals by steps. Where there is
 /// nothing to answer, states lead to arrivals.
-fn graph_of(steps: &Steps) -> Found<Graph> {
+fn graph_of(steps: &Steps) -> Allocated<Graph> {
     let points = steps.point(steps.states, 0);
     let answers = if steps.outputs == 0 { 0 } else { points };
     let mut draft = Draft::new(steps, Player::Odd, answers)?;
@@ -149,14 +149,14 @@ pub struct Draft {
     offsets: Vec<u32>,
     successors: Vec<u32>,
     end: u32,
-    arrivals: Vec<Step>,
+    arrivals: Vec<GameStep>,
     /// The steps that the next vertex leads to.
-    pub row: Vec<Step>,
+    pub row: Vec<GameStep>,
 }
 
 impl Draft {
     /// Begins a graph in which the states belong to `owner` and lead to `choices` vertices of the other player, as many each.
-    pub fn new(steps: &Steps, owner: Player, choices: u32) -> Found<Draft> {
+    pub fn new(steps: &Steps, owner: Player, choices: u32) -> Allocated<Draft> {
         let alloc = steps.alloc;
         let (target, priority) = (steps.states.saturating_add(choices), 1);
         let mut owners = vec![in alloc; owner; steps.states as usize]?;
@@ -176,13 +176,13 @@ impl Draft {
             offsets,
             successors,
             end: target,
-            arrivals: vec![in alloc; Step { target, priority }; 1]?,
+            arrivals: vec![in alloc; GameStep { target, priority }; 1]?,
             row: Vec::new(alloc),
         })
     }
 
     /// Lets the next vertex lead to the steps of the row, and clears the row.
-    pub fn lead(&mut self) -> Found<()> {
+    pub fn lead(&mut self) -> Allocated<()> {
         self.offsets.push(count(self.successors.len()))?;
         self.row.sort_unstable();
         self.row.dedup();
@@ -200,7 +200,7 @@ impl Draft {
     }
 
     /// Returns the graph, once each vertex leads somewhere.
-    pub fn graph(self) -> Found<Graph> {
+    pub fn graph(self) -> Allocated<Graph> {
         let Draft {
             alloc,
             mut owners,

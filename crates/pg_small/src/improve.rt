@@ -1,14 +1,14 @@
 //! Remakes gates, one after another, from the signals that are there.
 
-use crate::circuit::Circuit;
+use crate::circuit::WantedNet;
 use crate::making::Want;
 use crate::net::{flip, word_of};
-use crate::numbers::{Found, count, item, put};
+use crate::numbers::{Allocated, count, item, put};
 
-impl Circuit {
+impl WantedNet {
     /// Remakes gates wherever that takes fewer gates, or up to `more` more than that, until they no longer become fewer or `looks` words
     /// were looked at.
-    pub fn improve(&mut self, more: u32, looks: &mut u64) -> Found<()> {
+    pub fn improve(&mut self, more: u32, looks: &mut u64) -> Allocated<()> {
         self.net.looks = *looks;
         for _ in 0..u64::MAX {
             let len = self.net.len();
@@ -26,7 +26,7 @@ impl Circuit {
     }
 
     /// Remakes a gate, if the net doesn't grow by it.
-    fn renew(&mut self, signal: u32, more: u32) -> Found<()> {
+    fn renew(&mut self, signal: u32, more: u32) -> Allocated<()> {
         let (want, behind) = self.want_of(signal)?;
         let len = self.net.len();
         let needed = self.net.needed(&self.literals, (signal, 0), &behind)?;
@@ -57,7 +57,7 @@ impl Circuit {
 
     /// Returns what is wanted of a signal: its values at the points where a literal would be wrong if the signal were negated. Also returns
     /// which signals depend on it, itself included.
-    fn want_of(&mut self, signal: u32) -> Found<(Want, Vec<bool>)> {
+    fn want_of(&mut self, signal: u32) -> Allocated<(Want, Vec<bool>)> {
         let net = &mut self.net;
         let mut behind = vec![in net.alloc; false; net.len() as usize]?;
         let mut values = net.values.clone()?;

@@ -21,5 +21,5 @@ mod steps;
 mod tree;
 
 pub use moore::propose_moore;
-pub use net::Gate;
-pub use proposal::{Proposal, propose};
+pub use net::Conjunction;
+pub use proposal::{SmallCircuit, propose};

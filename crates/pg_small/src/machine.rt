@@ -1,7 +1,7 @@
 //! Mealy machines.
 
-use crate::numbers::{Found, NONE, at, count, is_marked, power, put};
-use crate::steps::{Step, Steps};
+use crate::numbers::{Allocated, NONE, at, count, is_marked, power, put};
+use crate::steps::{GameStep, Steps};
 use std::alloc::Global;
 use std::ops::Range;
 
@@ -23,7 +23,7 @@ impl Machine {
         states: u32,
         start: u32,
         reply: F,
-    ) -> Found<Machine>
+    ) -> Allocated<Machine>
         requires { F.IsAlwaysCallable reply }
     {
         let mut numbers = vec![in alloc; NONE; states as usize]?;
@@ -56,7 +56,7 @@ impl Machine {
     }
 
     /// Returns a machine that makes only the moves that are marked at their places: where it can, to the state that it met first.
-    pub fn choose(steps: &Steps, moves: &[bool]) -> Found<Machine> {
+    pub fn choose(steps: &Steps, moves: &[bool]) -> Allocated<Machine> {
         let target = |point: u32, output: u32| steps.at(steps.place(point, output)).target;
         let (states, start) = (steps.states, steps.start);
         Machine::met(steps.alloc, steps.inputs, states, start, |point, numbers| {
@@ -69,7 +69,7 @@ impl Machine {
     }
 
     /// Returns a machine with an output letter for each state, whatever the input letter.
-    pub fn ahead(steps: &Steps, letters: &[u32]) -> Found<Machine> {
+    pub fn ahead(steps: &Steps, letters: &[u32]) -> Allocated<Machine> {
         let (states, start) = (steps.states, steps.start);
         Machine::met(steps.alloc, steps.inputs, states, start, |point, _| {
             let output = at(letters, point.wrapping_shr(steps.inputs));
@@ -78,7 +78,7 @@ impl Machine {
     }
 
     /// Returns the machine of the states that are reached.
-    pub fn reached(&self, alloc: Global) -> Found<Machine> {
+    pub fn reached(&self, alloc: Global) -> Allocated<Machine> {
         Machine::met(
             alloc,
             self.inputs,
@@ -89,7 +89,7 @@ impl Machine {
     }
 
     /// Returns the machine that goes to `to` in place of `from`.
-    pub fn led(&self, alloc: Global, from: u32, to: u32) -> Found<Machine> {
+    pub fn led(&self, alloc: Global, from: u32, to: u32) -> Allocated<Machine> {
         let mut nexts = Vec::new(alloc);
         for next in &self.nexts {
             nexts.push(if *next == from { to } else { *next })?;
@@ -103,7 +103,7 @@ impl Machine {
     }
 
     /// Returns the step that the automaton makes from `beside` while the machine makes its step at a point.
-    pub fn step(&self, steps: &Steps, beside: u32, point: u32) -> Step {
+    pub fn step(&self, steps: &Steps, beside: u32, point: u32) -> GameStep {
         let input = point & power(self.inputs).wrapping_sub(1);
         steps.step(beside, steps.place(input, at(&self.outputs, point)))
     }

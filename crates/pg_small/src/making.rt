@@ -1,7 +1,7 @@
 //! Literals of a net, made as they are wanted.
 
 use crate::net::{Net, flip};
-use crate::numbers::{Found, item, logarithm};
+use crate::numbers::{Allocated, item, logarithm};
 use std::alloc::Global;
 
 /// What is wanted of a literal: true at the points of `on`, false at those of `off`.
@@ -56,7 +56,7 @@ impl Net {
     /// Returns a literal as wanted, of at most `most` new gates, if one is found: of one gate by several ways, or by the way that tells
     /// most. Gates are left over where none is found.
     #[cycle(making)]
-    pub fn make(&mut self, want: &Want, most: u32) -> Found<Option<u32>> {
+    pub fn make(&mut self, want: &Want, most: u32) -> Allocated<Option<u32>> {
         let many = (
             shared(&want.on, &want.on, 0),
             shared(&want.off, &want.off, 0),
@@ -83,7 +83,7 @@ impl Net {
 
     /// Makes a literal as wanted from a candidate, of at most `most` new gates, if one is found.
     #[cycle(making)]
-    fn make_by(&mut self, best: Candidate, want: &Want, most: u32) -> Found<Option<u32>> {
+    fn make_by(&mut self, best: Candidate, want: &Want, most: u32) -> Allocated<Option<u32>> {
         let Candidate { literal, way, .. } = best;
         let cost = if way == Way::Choose { 3 } else { 1 };
         if most == 0 || most < cost {
@@ -124,7 +124,7 @@ impl Net {
     }
 
     /// Returns the literals that serve, those that tell most first, and at most `WAYS`.
-    fn ways(&mut self, want: &Want, many: (u32, u32)) -> Found<Vec<Candidate>> {
+    fn ways(&mut self, want: &Want, many: (u32, u32)) -> Allocated<Vec<Candidate>> {
         self.look(self.len().saturating_mul(2));
         let mut ways = Vec::new(self.alloc);
         for signal in 0..self.len() {
@@ -141,7 +141,7 @@ impl Net {
     }
 
     /// Returns the values of a literal as what is wanted.
-    pub fn want_of(&self, literal: u32) -> Found<Want> {
+    pub fn want_of(&self, literal: u32) -> Allocated<Want> {
         let mut want = Want::new(self.alloc);
         for word in self.values(literal / 2) {
             want.on.push(*word ^ flip(literal))?;
@@ -151,7 +151,7 @@ impl Net {
     }
 
     /// Returns what is wanted besides a literal that serves in a way.
-    fn rest(&self, want: &Want, way: Way, literal: u32) -> Found<Want> {
+    fn rest(&self, want: &Want, way: Way, literal: u32) -> Allocated<Want> {
         let mut rest = Want::new(self.alloc);
         let wants = want.on.iter().zip(&want.off);
         for (word, (on, off)) in self.values(literal / 2).iter().zip(wants) {

@@ -2,14 +2,14 @@
 
 use crate::game::loses_none;
 use crate::machine::Machine;
-use crate::numbers::{Found, at, spend};
-use crate::product::{Product, places_of};
+use crate::numbers::{Allocated, at, spend};
+use crate::product::{MachineProduct, places_of};
 use crate::steps::Steps;
 use pg_search_components::Edges;
 
 /// Returns a machine with fewer states, or the same machine. A state is left out where another one may take its place, since all runs are
 /// still accepted then.
-pub fn merged(machine: Machine, steps: &Steps, looks: &mut u64) -> Found<Machine> {
+pub fn merged(machine: Machine, steps: &Steps, looks: &mut u64) -> Allocated<Machine> {
     let mut machine = machine;
     for _ in 0..u32::MAX {
         let before = machine.states;
@@ -33,9 +33,9 @@ fn without(
     state: u32,
     steps: &Steps,
     looks: &mut u64,
-) -> Found<Option<Machine>> {
+) -> Allocated<Option<Machine>> {
     let start = [(0, steps.start)];
-    let Some(product) = Product::of(machine, steps, &start, u32::MAX, looks)? else {
+    let Some(product) = MachineProduct::of(machine, steps, &start, u32::MAX, looks)? else {
         return Ok(None);
     };
     let most = product.len().saturating_mul(4).saturating_add(256);
@@ -49,7 +49,7 @@ fn without(
         for pair in rows.targets(state) {
             starts.push((other, at(&product.besides, *pair)))?;
         }
-        if let Some(product) = Product::of(&tried, steps, &starts, most, looks)? {
+        if let Some(product) = MachineProduct::of(&tried, steps, &starts, most, looks)? {
             if loses_none(&product.steps(&tried, steps)?, looks)? {
                 return Ok(Some(tried.reached(steps.alloc)?));
             }

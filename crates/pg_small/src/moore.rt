@@ -1,13 +1,13 @@
 //! Circuits whose outputs depend on latches alone, for a controller that chooses its output letter before the input letter.
 
-use crate::circuit::{Circuit, circuit_of};
+use crate::circuit::{WantedNet, circuit_of};
 use crate::codes::{Codes, Columns};
 use crate::freedom::Freedom;
 use crate::game::Draft;
 use crate::machine::Machine;
 use crate::merging::merged;
-use crate::numbers::{Found, at, count, power};
-use crate::proposal::{Proposal, STEPS, TRIES, WORDS};
+use crate::numbers::{Allocated, at, count, power};
+use crate::proposal::{STEPS, SmallCircuit, TRIES, WORDS};
 use crate::steps::Steps;
 use crate::tree::tree_of;
 use pg_arena::Player;
@@ -17,7 +17,10 @@ use std::alloc::{AllocError, Global};
 
 /// Proposes small circuits, the smallest first, as `propose` does, but their outputs don't depend on inputs of the same step: at most
 /// three, and none if the controller loses when it chooses first, or the automaton is too large. Fails only if memory runs out.
-pub fn propose_moore(alloc: Global, automaton: &Automaton) -> Result<Vec<Proposal>, AllocError> {
+pub fn propose_moore(
+    alloc: Global,
+    automaton: &Automaton,
+) -> Result<Vec<SmallCircuit>, AllocError> {
     let mut proposals = Vec::new(alloc);
     let Some(steps) = Steps::of(alloc, automaton)? else {
         return Ok(proposals);
@@ -36,12 +39,12 @@ pub fn propose_moore(alloc: Global, automaton: &Automaton) -> Result<Vec<Proposa
     if let Some(last) = tree_of(&machine, &steps)? {
         proposals.push(last)?;
     }
-    proposals.sort_by_key(|it: &Proposal| it.size())?;
+    proposals.sort_by_key(|it: &SmallCircuit| it.size())?;
     Ok(proposals)
 }
 
 /// Returns an output letter for each state, with which the controller wins, or `None` if it loses the start.
-fn letters_of(steps: &Steps) -> Found<Option<Vec<u32>>> {
+fn letters_of(steps: &Steps) -> Allocated<Option<Vec<u32>>> {
     let pairs = steps.states.wrapping_shl(steps.outputs);
     let last = power(steps.outputs).wrapping_sub(1);
     let mut draft = Draft::new(steps, Player::Even, pairs)?;
@@ -66,7 +69,7 @@ fn letters_of(steps: &Steps) -> Found<Option<Vec<u32>>> {
 }
 
 /// Returns codes of a machine's states: by parts, or counted.
-fn codes_of(machine: &Machine, is_counted: bool) -> Found<Option<Codes>> {
+fn codes_of(machine: &Machine, is_counted: bool) -> Allocated<Option<Codes>> {
     let alloc = *machine.nexts.allocator();
     let (inputs, states) = (machine.inputs, machine.states);
     let mut edges = Vec::new(alloc);
@@ -90,7 +93,7 @@ fn proposal_of(
     machine: &Machine,
     is_counted: bool,
     words: &mut u64,
-) -> Found<Option<Proposal>> {
+) -> Allocated<Option<SmallCircuit>> {
     let alloc = steps.alloc;
     let (inputs, states) = (machine.inputs, machine.states);
     let Some(codes) = codes_of(machine, is_counted)? else {
@@ -118,7 +121,7 @@ fn proposal_of(
     let outputs = first.append(&mut gates, 1, inputs)?;
     let by = count(gates.len());
     let latches = second.append(&mut gates, second.net.given, by)?;
-    Ok(Some(Proposal {
+    Ok(Some(SmallCircuit {
         latches,
         outputs,
         gates,
@@ -131,7 +134,7 @@ fn part(
     codes: &Codes,
     bits: (&[u32], u32),
     words: &mut u64,
-) -> Found<Option<Circuit>> {
+) -> Allocated<Option<WantedNet>> {
     let Some(mut circuit) = circuit_of(free, codes, bits, words)? else {
         return Ok(None);
     };

@@ -1,12 +1,12 @@
 //! Nets of conjunctions over signals whose values are known at every point that can come up. Two signals that agree at all points are
 //! one, whatever they would be elsewhere.
 
-use crate::numbers::{Found, NONE, at, count, item, put};
+use crate::numbers::{Allocated, NONE, at, count, item, put};
 use std::alloc::Global;
 
 /// A conjunction of two literals: a literal is twice a variable, plus one where it is negated.
 #[derive(Clone, Copy)]
-pub struct Gate {
+pub struct Conjunction {
     pub left: u32,
     pub right: u32,
 }
@@ -22,7 +22,7 @@ pub struct Net {
     pub words: u32,
     /// How many signals aren't gates.
     pub given: u32,
-    gates: Vec<Gate>,
+    gates: Vec<Conjunction>,
     /// The values of all signals.
     pub values: Vec<u64>,
     /// Signals at places that follow from their values: the last one at each place, though it may be gone.
@@ -46,7 +46,7 @@ pub fn word_of(values: &[u64], literal: u32, word: u32, words: u32) -> u64 {
 
 impl Net {
     /// Returns the net of signals that are given by their values, signal after signal; the values of signal 0 are zeros.
-    pub fn new(alloc: Global, words: u32, given: &[u64], looks: u64) -> Found<Net> {
+    pub fn new(alloc: Global, words: u32, given: &[u64], looks: u64) -> Allocated<Net> {
         let mut net = Net {
             alloc,
             words,
@@ -58,7 +58,7 @@ impl Net {
             looks,
         };
         for _ in given.chunks(words.max(1) as usize) {
-            net.add(Gate { left: 0, right: 0 })?;
+            net.add(Conjunction { left: 0, right: 0 })?;
         }
         net.given = net.len();
         Ok(net)
@@ -69,8 +69,8 @@ impl Net {
         count(self.gates.len())
     }
 
-    pub fn gate(&self, signal: u32) -> Gate {
-        item(&self.gates, signal, Gate { left: 0, right: 0 })
+    pub fn gate(&self, signal: u32) -> Conjunction {
+        item(&self.gates, signal, Conjunction { left: 0, right: 0 })
     }
 
     /// Returns the values of a signal.
@@ -98,7 +98,7 @@ impl Net {
     }
 
     /// Adds a signal whose values are there already.
-    fn add(&mut self, gate: Gate) -> Found<()> {
+    fn add(&mut self, gate: Conjunction) -> Allocated<()> {
         let signal = self.len();
         let place = self.place(self.values(signal));
         put(&mut self.places, place, signal);
@@ -134,7 +134,7 @@ impl Net {
     }
 
     /// Returns the conjunction of two literals.
-    pub fn and(&mut self, x: u32, y: u32) -> Found<u32> {
+    pub fn and(&mut self, x: u32, y: u32) -> Allocated<u32> {
         for word in 0..self.words {
             let left = word_of(&self.values, x, word, self.words);
             let right = word_of(&self.values, y, word, self.words);
@@ -147,12 +147,12 @@ impl Net {
             return Ok(known);
         }
         let (left, right) = (x.max(y), x.min(y));
-        self.add(Gate { left, right })?;
+        self.add(Conjunction { left, right })?;
         Ok(signal.saturating_mul(2))
     }
 
     /// Returns the gates except one: first those that don't depend on it, and then those that do.
-    fn order(&self, signal: u32, behind: &[bool]) -> Found<Vec<u32>> {
+    fn order(&self, signal: u32, behind: &[bool]) -> Allocated<Vec<u32>> {
         let mut order = Vec::new(self.alloc);
         for is_behind in [false, true] {
             for other in self.given..self.len() {
@@ -165,7 +165,12 @@ impl Net {
     }
 
     /// Returns which signals literals need when a literal takes the place of a signal; all given signals count as needed.
-    pub fn needed(&self, literals: &[u32], swap: (u32, u32), behind: &[bool]) -> Found<Vec<bool>> {
+    pub fn needed(
+        &self,
+        literals: &[u32],
+        swap: (u32, u32),
+        behind: &[bool],
+    ) -> Allocated<Vec<bool>> {
         let mut needed = vec![in self.alloc; true; self.given as usize]?;
         needed.resize(self.gates.len(), false)?;
         for literal in literals {
@@ -183,7 +188,12 @@ impl Net {
 
     /// Returns the net of what literals need, and nothing else, when a literal takes the place of a signal; the literals become literals of
     /// that net. The signals that depend on the replaced one are marked, and the literal that replaces it is none of these.
-    pub fn rebuilt(&self, literals: &mut [u32], swap: (u32, u32), behind: &[bool]) -> Found<Net> {
+    pub fn rebuilt(
+        &self,
+        literals: &mut [u32],
+        swap: (u32, u32),
+        behind: &[bool],
+    ) -> Allocated<Net> {
         let needed = self.needed(literals, swap, behind)?;
         let words = (self.given as usize).saturating_mul(self.words as usize);
         let given = &self.values[..words.min(self.values.len())];

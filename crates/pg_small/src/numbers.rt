@@ -4,7 +4,7 @@ pub use pg_search_rows::{NONE, at, count, is_marked, item, put};
 use std::alloc::AllocError;
 
 /// A result, unless memory runs out.
-pub type Found<T> = Result<T, AllocError>;
+pub type Allocated<T> = Result<T, AllocError>;
 
 /// Returns two to the power of `n`, which is below 32.
 pub fn power(n: u32) -> u32 {

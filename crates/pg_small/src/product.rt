@@ -1,9 +1,9 @@
 //! The product of a machine and an automaton: pairs of states that are met together.
 
 use crate::machine::{Machine, points};
-use crate::numbers::{Found, NONE, at, count, put, spend};
-use crate::steps::{Step, Steps};
-use pg_search_components::Rows;
+use crate::numbers::{Allocated, NONE, at, count, put, spend};
+use crate::steps::{GameStep, Steps};
+use pg_search_components::TargetRows;
 use std::alloc::Global;
 
 /// The most pairs that there may be numbers for.
@@ -11,7 +11,7 @@ const MAX_PAIRS: u64 = 1 << 20;
 
 /// A product. Pairs are numbered in the order in which they are met.
 #[derive(Drop)]
-pub struct Product {
+pub struct MachineProduct {
     /// The machine's state of each pair; `besides` has the automaton's.
     pub states: Vec<u32>,
     pub besides: Vec<u32>,
@@ -20,7 +20,7 @@ pub struct Product {
     width: u32,
 }
 
-impl Product {
+impl MachineProduct {
     /// Returns the product of a machine, from the pairs of `starts` on. `None` if the automaton has no edge for a step, if there are more
     /// than `most` pairs, or if it takes too long, as with too many pairs to number.
     pub fn of(
@@ -29,13 +29,13 @@ impl Product {
         starts: &[(u32, u32)],
         most: u32,
         looks: &mut u64,
-    ) -> Found<Option<Product>> {
+    ) -> Allocated<Option<MachineProduct>> {
         let many = (machine.states as u64).saturating_mul(steps.states as u64);
         if many > MAX_PAIRS || !spend(looks, many / 16) {
             *looks = 0;
             return Ok(None);
         }
-        let mut product = Product {
+        let mut product = MachineProduct {
             states: Vec::new(steps.alloc),
             besides: Vec::new(steps.alloc),
             numbers: vec![in steps.alloc; NONE; many as usize]?,
@@ -76,7 +76,7 @@ impl Product {
     }
 
     /// Numbers a pair, unless it is known.
-    fn meet(&mut self, state: u32, beside: u32) -> Found<()> {
+    fn meet(&mut self, state: u32, beside: u32) -> Allocated<()> {
         if self.number(state, beside) == NONE {
             let place = state.wrapping_mul(self.width).wrapping_add(beside);
             put(&mut self.numbers, place, count(self.states.len()));
@@ -87,14 +87,14 @@ impl Product {
     }
 
     /// Returns all runs, as steps from pair to pair with no outputs to choose.
-    pub fn steps(&self, machine: &Machine, steps: &Steps) -> Found<Steps> {
+    pub fn steps(&self, machine: &Machine, steps: &Steps) -> Allocated<Steps> {
         let mut table = Vec::new(steps.alloc);
         for (state, beside) in self.states.iter().zip(&self.besides) {
             for point in points(*state, machine.inputs) {
                 let step = machine.step(steps, *beside, point);
                 let target = self.number(at(&machine.nexts, point), step.target);
                 let priority = step.priority;
-                table.push(Step { target, priority })?;
+                table.push(GameStep { target, priority })?;
             }
         }
         Ok(Steps {
@@ -109,8 +109,8 @@ impl Product {
 }
 
 /// Returns for each number below `many` its places in a list.
-pub fn places_of(alloc: Global, numbers: &[u32], many: u32) -> Found<Rows> {
-    let mut rows = Rows::with_capacity(alloc, 0)?;
+pub fn places_of(alloc: Global, numbers: &[u32], many: u32) -> Allocated<TargetRows> {
+    let mut rows = TargetRows::with_capacity(alloc, 0)?;
     rows.clear(many)?;
     for number in numbers {
         rows.count(*number);

@@ -1,6 +1,6 @@
 //! Small circuits: machines of few states, their freedom, codes of their states, and nets.
 
-use crate::circuit::{Circuit, circuit_of};
+use crate::circuit::{WantedNet, circuit_of};
 use crate::codes::{Codes, Columns};
 use crate::dice::Dice;
 use crate::fewest::keep_few;
@@ -8,8 +8,8 @@ use crate::freedom::Freedom;
 use crate::game::winning_moves;
 use crate::machine::Machine;
 use crate::merging::merged;
-use crate::net::Gate;
-use crate::numbers::{Found, power};
+use crate::net::Conjunction;
+use crate::numbers::{Allocated, power};
 use crate::steps::Steps;
 use crate::tree::tree_of;
 use pg_hoa_automaton::Automaton;
@@ -33,16 +33,16 @@ const WORDS_OF_TURN: u64 = 1 << 20;
 /// each gate is over literals of smaller variables. A literal is twice a variable, plus one where it is negated; 0 is false. All latches
 /// begin as 0.
 #[derive(Drop)]
-pub struct Proposal {
+pub struct SmallCircuit {
     /// The literal that each latch takes its next value from.
     pub latches: Vec<u32>,
     /// The literal of each of the automaton's outputs, in the order of its propositions.
     pub outputs: Vec<u32>,
     /// The gates, in the order of their variables.
-    pub gates: Vec<Gate>,
+    pub gates: Vec<Conjunction>,
 }
 
-impl Proposal {
+impl SmallCircuit {
     /// How many gates and latches there are.
     pub fn size(&self) -> usize {
         self.gates.len().saturating_add(self.latches.len())
@@ -51,7 +51,7 @@ impl Proposal {
 
 /// Proposes small circuits, the smallest first, all of whose runs the automaton is meant to accept: at most two, and none if the controller
 /// loses or the automaton is too large. Fails only if memory runs out.
-pub fn propose(alloc: Global, automaton: &Automaton) -> Result<Vec<Proposal>, AllocError> {
+pub fn propose(alloc: Global, automaton: &Automaton) -> Result<Vec<SmallCircuit>, AllocError> {
     let mut proposals = Vec::new(alloc);
     let Some(mut steps) = Steps::of(alloc, automaton)? else {
         return Ok(proposals);
@@ -67,7 +67,7 @@ pub fn propose(alloc: Global, automaton: &Automaton) -> Result<Vec<Proposal>, Al
         let mut gates = Vec::new(alloc);
         let literals = draft.circuit.append(&mut gates, 0, 0)?;
         let (outputs, latches) = literals.split_at(draft.order.len().min(literals.len()));
-        proposals.push(Proposal {
+        proposals.push(SmallCircuit {
             latches: Vec::from_slice(alloc, latches)?,
             outputs: Vec::from_slice(alloc, outputs)?,
             gates,
@@ -76,12 +76,12 @@ pub fn propose(alloc: Global, automaton: &Automaton) -> Result<Vec<Proposal>, Al
     if let Some(last) = tree_of(&machine, &steps)? {
         proposals.push(last)?;
     }
-    proposals.sort_by_key(|it: &Proposal| it.size())?;
+    proposals.sort_by_key(|it: &SmallCircuit| it.size())?;
     Ok(proposals)
 }
 
 /// Returns a machine that makes such moves: of few states from the start, or else of any.
-fn small_machine(steps: &Steps, moves: Vec<bool>) -> Found<Machine> {
+fn small_machine(steps: &Steps, moves: Vec<bool>) -> Allocated<Machine> {
     let mut moves = moves;
     let any = Machine::choose(steps, &moves)?;
     keep_few(steps, &mut moves, &mut { STEPS })?;
@@ -98,11 +98,11 @@ struct Draft {
     codes: Codes,
     /// The order in which the outputs are made.
     order: Vec<u32>,
-    circuit: Circuit,
+    circuit: WantedNet,
 }
 
 /// Returns the smaller one of the circuits with codes by parts and with counted codes, if there is one.
-fn best_draft(steps: &Steps, machine: &Machine) -> Found<Option<Draft>> {
+fn best_draft(steps: &Steps, machine: &Machine) -> Allocated<Option<Draft>> {
     let mut words = WORDS;
     let mut best: Option<Draft> = None;
     for is_counted in [false, true] {
@@ -124,7 +124,7 @@ fn draft_of(
     machine: &Machine,
     is_counted: bool,
     words: &mut u64,
-) -> Found<Option<Draft>> {
+) -> Allocated<Option<Draft>> {
     let mut looks = STEPS;
     let Some(free) = Freedom::of(machine, steps, &mut looks)? else {
         return Ok(None);
@@ -155,7 +155,7 @@ fn draft_of(
 
 impl Draft {
     /// Tries other codes and orders of outputs, as the dice fall, as long as that takes little.
-    fn search(&mut self) -> Found<()> {
+    fn search(&mut self) -> Allocated<()> {
         let mut dice = Dice::new();
         for _ in 0..TURNS {
             let mut codes = self.codes.copied()?;

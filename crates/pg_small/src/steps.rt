@@ -1,6 +1,6 @@
 //! The steps of an automaton, by state, input letter and output letter.
 
-use crate::numbers::{Found, NONE, count, item, power};
+use crate::numbers::{Allocated, NONE, count, item, power};
 use pg_hoa_automaton::{Automaton, Shape};
 use std::alloc::Global;
 
@@ -9,14 +9,14 @@ const MAX_PLACES: u64 = 1 << 21;
 
 /// Where a letter leads, and a priority: the controller wins a run if the greatest priority that recurs is even.
 #[derive(Clone, Copy, PartialEq, Eq, PartialOrd, Ord)]
-pub struct Step {
+pub struct GameStep {
     pub target: u32,
     pub priority: u32,
 }
 
-impl Step {
+impl GameStep {
     /// Stands for no edge.
-    pub const NONE: Step = Step {
+    pub const NONE: GameStep = GameStep {
         target: NONE,
         priority: 0,
     };
@@ -32,12 +32,12 @@ pub struct Steps {
     pub inputs: u32,
     pub outputs: u32,
     /// The step at each place.
-    pub table: Vec<Step>,
+    pub table: Vec<GameStep>,
 }
 
 impl Steps {
     /// Returns the steps of an automaton, or `None` if it has too many.
-    pub fn of(alloc: Global, automaton: &Automaton) -> Found<Option<Steps>> {
+    pub fn of(alloc: Global, automaton: &Automaton) -> Allocated<Option<Steps>> {
         let letters = power(automaton.propositions()) as u64;
         if letters.saturating_mul(automaton.states() as u64) > MAX_PLACES {
             return Ok(None);
@@ -70,18 +70,18 @@ impl Steps {
         point.wrapping_shl(self.outputs).wrapping_add(output)
     }
 
-    pub fn at(&self, place: u32) -> Step {
-        item(&self.table, place, Step::NONE)
+    pub fn at(&self, place: u32) -> GameStep {
+        item(&self.table, place, GameStep::NONE)
     }
 
     /// Returns the step from a state by a letter, which is an input letter and then an output letter.
-    pub fn step(&self, state: u32, letter: u32) -> Step {
+    pub fn step(&self, state: u32, letter: u32) -> GameStep {
         self.at(self.place(self.point(state, 0), letter))
     }
 }
 
 /// Returns the letters of the propositions that the controller sets, or of those that it doesn't. All other propositions are false in them.
-fn letters_of(alloc: Global, automaton: &Automaton, sets: bool) -> Found<Vec<u32>> {
+fn letters_of(alloc: Global, automaton: &Automaton, sets: bool) -> Allocated<Vec<u32>> {
     let mut letters = vec![in alloc; 0u32; 1]?;
     for a in 0..automaton.propositions() {
         if automaton.controllable(a) == sets {
@@ -93,12 +93,12 @@ fn letters_of(alloc: Global, automaton: &Automaton, sets: bool) -> Found<Vec<u32
     Ok(letters)
 }
 
-fn step_of(automaton: &Automaton, state: u32, letter: u32) -> Step {
+fn step_of(automaton: &Automaton, state: u32, letter: u32) -> GameStep {
     let Some((target, met)) = automaton.next(state, letter) else {
-        return Step::NONE;
+        return GameStep::NONE;
     };
     let priority = priority_of(automaton.shape(), automaton.sets(), met);
-    Step { target, priority }
+    GameStep { target, priority }
 }
 
 /// Returns the priority of a step on which these sets are met, the least first.

@@ -2,9 +2,9 @@
 //! latches, in which equal parts are shared.
 
 use crate::machine::Machine;
-use crate::net::Gate;
-use crate::numbers::{Found, NONE, at, count, has_bit, width};
-use crate::proposal::Proposal;
+use crate::net::Conjunction;
+use crate::numbers::{Allocated, NONE, at, count, has_bit, width};
+use crate::proposal::SmallCircuit;
 use crate::steps::Steps;
 use std::alloc::Global;
 use std::collections::BTreeMap;
@@ -17,13 +17,13 @@ const MOST_ROWS: u32 = 1 << 20;
 struct Draft {
     alloc: Global,
     variables: u32,
-    gates: Vec<Gate>,
+    gates: Vec<Conjunction>,
     known: BTreeMap<(u32, u32), u32>,
 }
 
 impl Draft {
     /// Returns the conjunction of two literals.
-    fn and(&mut self, x: u32, y: u32) -> Found<u32> {
+    fn and(&mut self, x: u32, y: u32) -> Allocated<u32> {
         let (left, right) = (x.max(y), x.min(y));
         if right == 0 || left == right ^ 1 {
             return Ok(0);
@@ -35,7 +35,7 @@ impl Draft {
         if let Some(known) = known {
             return Ok(known);
         }
-        self.gates.push(Gate { left, right })?;
+        self.gates.push(Conjunction { left, right })?;
         let variable = self.variables.saturating_add(count(self.gates.len()));
         let literal = variable.saturating_mul(2);
         self.known.insert((left, right), literal)?;
@@ -43,7 +43,7 @@ impl Draft {
     }
 
     /// Returns the choice of one of two literals by the bit of a variable. A literal is `NONE` where either value serves.
-    fn choice(&mut self, variable: u32, low: u32, high: u32) -> Found<u32> {
+    fn choice(&mut self, variable: u32, low: u32, high: u32) -> Allocated<u32> {
         if low == NONE || low == high {
             return Ok(high);
         }
@@ -57,7 +57,7 @@ impl Draft {
     }
 
     /// Returns the literal that is bit `n` of these numbers, row after row of the machine.
-    fn bit(&mut self, numbers: &[u32], n: u32) -> Found<u32> {
+    fn bit(&mut self, numbers: &[u32], n: u32) -> Allocated<u32> {
         let mut row = Vec::new(self.alloc);
         for number in numbers {
             row.push(has_bit(*number, n) as u32)?;
@@ -73,7 +73,7 @@ impl Draft {
     }
 
     /// Returns the literals of the first `many` bits of numbers.
-    fn bits(&mut self, numbers: &[u32], many: u32) -> Found<Vec<u32>> {
+    fn bits(&mut self, numbers: &[u32], many: u32) -> Allocated<Vec<u32>> {
         let mut literals = Vec::new(self.alloc);
         for n in 0..many {
             literals.push(self.bit(numbers, n)?)?;
@@ -83,7 +83,7 @@ impl Draft {
 }
 
 /// Returns the circuit of a machine, or `None` if the machine is too large. Its outputs depend on no input if they don't in the machine.
-pub fn tree_of(machine: &Machine, steps: &Steps) -> Found<Option<Proposal>> {
+pub fn tree_of(machine: &Machine, steps: &Steps) -> Allocated<Option<SmallCircuit>> {
     if count(machine.nexts.len()) > MOST_ROWS {
         return Ok(None);
     }
@@ -96,7 +96,7 @@ pub fn tree_of(machine: &Machine, steps: &Steps) -> Found<Option<Proposal>> {
     };
     let outputs = draft.bits(&machine.outputs, steps.outputs)?;
     let latches = draft.bits(&machine.nexts, bits)?;
-    Ok(Some(Proposal {
+    Ok(Some(SmallCircuit {
         latches,
         outputs,
         gates: draft.gates,

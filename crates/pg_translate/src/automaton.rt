@@ -1,20 +1,20 @@
 //! Complete deterministic automata, by classes of letters.
 
-use crate::fault::Found;
-use crate::lists::Lists;
+use crate::fault::Attempt;
+use crate::lists::NumberedLists;
 use crate::numbers::{NONE, at, between, count, gathered, item, power, put};
 use std::alloc::Global;
 
 /// Where an edge leads, and what it is marked with: a priority, or a set of colours as bits.
 #[derive(Clone, Copy, PartialEq, Eq, PartialOrd, Ord)]
-pub struct Edge {
+pub struct MarkedEdge {
     pub target: u32,
     pub mark: u32,
 }
 
-impl Edge {
+impl MarkedEdge {
     /// Stands for no edge.
-    pub const NONE: Edge = Edge {
+    pub const NONE: MarkedEdge = MarkedEdge {
         target: NONE,
         mark: 0,
     };
@@ -29,7 +29,7 @@ pub struct Classes {
 
 impl Classes {
     /// Puts all letters over the given number of propositions into one class.
-    pub fn new(alloc: Global, propositions: u32) -> Found<Classes> {
+    pub fn new(alloc: Global, propositions: u32) -> Attempt<Classes> {
         Ok(Classes {
             of: vec![in alloc; 0; power(propositions) as usize]?,
             many: 1,
@@ -44,7 +44,7 @@ impl Classes {
         count(self.of.len())
     }
 
-    pub fn clone(&self) -> Found<Classes> {
+    pub fn clone(&self) -> Attempt<Classes> {
         Ok(Classes {
             of: self.of.clone()?,
             many: self.many,
@@ -52,7 +52,7 @@ impl Classes {
     }
 
     /// Returns the least letter of each class.
-    pub fn examples(&self, alloc: Global) -> Found<Vec<u32>> {
+    pub fn examples(&self, alloc: Global) -> Attempt<Vec<u32>> {
         let mut examples = vec![in alloc; 0; self.many as usize]?;
         for letter in (0..self.letters()).rev() {
             put(&mut examples, self.of(letter), letter);
@@ -61,11 +61,11 @@ impl Classes {
     }
 
     /// Splits the classes by the edges of a state, which are given letter by letter over the propositions of a mask.
-    pub fn refine(&mut self, alloc: Global, edges: &[Edge], mask: u32) -> Found<()> {
-        let mut numbers = Lists::new(alloc);
+    pub fn refine(&mut self, alloc: Global, edges: &[MarkedEdge], mask: u32) -> Attempt<()> {
+        let mut numbers = NumberedLists::new(alloc);
         let (mut last, mut last_number) = ([NONE, NONE, NONE], 0);
         for letter in 0..self.letters() {
-            let edge = item(edges, gathered(letter, mask), Edge::NONE);
+            let edge = item(edges, gathered(letter, mask), MarkedEdge::NONE);
             let key = [self.of(letter), edge.target, edge.mark];
             if key != last {
                 last_number = numbers.number(&key)?;
@@ -88,23 +88,23 @@ impl Classes {
 
 /// An automaton with priorities as marks: it accepts a word if the greatest priority that recurs is even. It begins in state 0.
 #[derive(Drop)]
-pub struct Automaton {
+pub struct MarkedAutomaton {
     pub alloc: Global,
     pub classes: Classes,
     /// The edge of each class, state by state.
-    pub edges: Vec<Edge>,
+    pub edges: Vec<MarkedEdge>,
     /// The key of each state. States with the same key are known to accept the same words.
     pub keys: Vec<u32>,
 }
 
-impl Automaton {
+impl MarkedAutomaton {
     /// Returns the automaton whose edges are given state by state and letter by letter.
     pub fn of_letters(
         alloc: Global,
         propositions: u32,
-        edges: &[Edge],
+        edges: &[MarkedEdge],
         keys: Vec<u32>,
-    ) -> Found<Automaton> {
+    ) -> Attempt<MarkedAutomaton> {
         let mut classes = Classes::new(alloc, propositions)?;
         let letters = classes.letters();
         for row in edges.chunks(letters.max(1) as usize) {
@@ -114,10 +114,10 @@ impl Automaton {
         let mut by_class = Vec::new(alloc);
         for row in edges.chunks(letters.max(1) as usize) {
             for letter in &examples {
-                by_class.push(item(row, *letter, Edge::NONE))?;
+                by_class.push(item(row, *letter, MarkedEdge::NONE))?;
             }
         }
-        Ok(Automaton {
+        Ok(MarkedAutomaton {
             alloc,
             classes,
             edges: by_class,
@@ -131,17 +131,17 @@ impl Automaton {
     }
 
     /// Returns the edges of a state, by class.
-    pub fn row(&self, state: u32) -> &[Edge] {
+    pub fn row(&self, state: u32) -> &[MarkedEdge] {
         let from = state.saturating_mul(self.classes.many);
         between(&self.edges, from, from.saturating_add(self.classes.many))
     }
 
-    pub fn step(&self, state: u32, letter: u32) -> Edge {
-        item(self.row(state), self.classes.of(letter), Edge::NONE)
+    pub fn step(&self, state: u32, letter: u32) -> MarkedEdge {
+        item(self.row(state), self.classes.of(letter), MarkedEdge::NONE)
     }
 
     /// Returns the different edges of a state, in ascending order.
-    pub fn distinct(&self, state: u32) -> Found<Vec<Edge>> {
+    pub fn distinct(&self, state: u32) -> Attempt<Vec<MarkedEdge>> {
         let mut edges = Vec::from_slice(self.alloc, self.row(state))?;
         edges.sort_unstable();
         edges.dedup();
@@ -163,7 +163,7 @@ impl Automaton {
     }
 
     /// Returns the automaton of the states that are reached when `by` replaces each state, numbered in the order in which they are met.
-    pub fn replaced(&self, by: &[u32]) -> Found<Automaton> {
+    pub fn replaced(&self, by: &[u32]) -> Attempt<MarkedAutomaton> {
         let mut numbers = vec![in self.alloc; NONE; self.len() as usize]?;
         let mut order = vec![in self.alloc; at(by, 0); 1]?;
         put(&mut numbers, at(by, 0), 0);
@@ -180,13 +180,13 @@ impl Automaton {
                     put(&mut numbers, target, count(order.len()));
                     order.push(target)?;
                 }
-                edges.push(Edge {
+                edges.push(MarkedEdge {
                     target: at(&numbers, target),
                     mark: edge.mark,
                 })?;
             }
         }
-        Ok(Automaton {
+        Ok(MarkedAutomaton {
             alloc: self.alloc,
             classes: self.classes.clone()?,
             edges,

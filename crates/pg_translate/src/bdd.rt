@@ -1,7 +1,7 @@
 //! Binary decision diagrams, reduced and shared (Bryant, IEEE Transactions on Computers 35, 1986).
 
-use crate::fault::Found;
-use crate::numbers::{NONE, Notes, at, count, has_bit, spend};
+use crate::fault::Attempt;
+use crate::numbers::{NONE, NumberMap, at, count, has_bit, spend};
 use indexmap::IndexSet;
 use std::alloc::Global;
 
@@ -47,7 +47,7 @@ pub struct Bdd {
 
 impl Bdd {
     /// Returns the diagrams false and true, with a budget of `steps` steps.
-    pub fn new(alloc: Global, steps: u64) -> Found<Bdd> {
+    pub fn new(alloc: Global, steps: u64) -> Attempt<Bdd> {
         let mut bdd = Bdd {
             alloc,
             branches: IndexSet::new(alloc),
@@ -91,7 +91,7 @@ impl Bdd {
         }
     }
 
-    fn join(&mut self, variable: u32, low: u32, high: u32) -> Found<u32> {
+    fn join(&mut self, variable: u32, low: u32, high: u32) -> Attempt<u32> {
         if low == high {
             return Ok(low);
         }
@@ -103,7 +103,7 @@ impl Bdd {
         Ok(count(number))
     }
 
-    pub fn variable(&mut self, variable: u32) -> Found<u32> {
+    pub fn variable(&mut self, variable: u32) -> Attempt<u32> {
         self.join(variable, NEVER, ALWAYS)
     }
 
@@ -122,7 +122,7 @@ impl Bdd {
     }
 
     /// Returns the diagram of `test` and `then`, or not `test` and `other`.
-    pub fn choose(&mut self, test: u32, then: u32, other: u32) -> Found<u32> {
+    pub fn choose(&mut self, test: u32, then: u32, other: u32) -> Attempt<u32> {
         let mut tasks = Vec::new(self.alloc);
         let mut done = Vec::new(self.alloc);
         tasks.push(Task::Look(Choice { test, then, other }))?;
@@ -151,7 +151,7 @@ impl Bdd {
 
 impl Bdd {
     /// Splits a choice by its least variable, and pushes the tasks that this gives. Takes one step.
-    fn part(&mut self, choice: Choice, tasks: &mut Vec<Task>) -> Found<()> {
+    fn part(&mut self, choice: Choice, tasks: &mut Vec<Task>) -> Attempt<()> {
         spend(&mut self.steps, 1)?;
         let Choice { test, then, other } = choice;
         let variable = self.top(test).min(self.top(then)).min(self.top(other));
@@ -174,15 +174,15 @@ impl Bdd {
 }
 
 impl Bdd {
-    pub fn and(&mut self, f: u32, g: u32) -> Found<u32> {
+    pub fn and(&mut self, f: u32, g: u32) -> Attempt<u32> {
         self.choose(f, g, NEVER)
     }
 
-    pub fn or(&mut self, f: u32, g: u32) -> Found<u32> {
+    pub fn or(&mut self, f: u32, g: u32) -> Attempt<u32> {
         self.choose(f, ALWAYS, g)
     }
 
-    pub fn not(&mut self, f: u32) -> Found<u32> {
+    pub fn not(&mut self, f: u32) -> Attempt<u32> {
         self.choose(f, NEVER, ALWAYS)
     }
 
@@ -194,7 +194,7 @@ impl Bdd {
 
     /// Returns the diagrams with a variable below `end` that are reached from a diagram, smaller numbers first. Noted diagrams, and those
     /// that are reached only through them, are left out.
-    fn below(&mut self, f: u32, end: u32, noted: &Notes) -> Found<Vec<u32>> {
+    fn below(&mut self, f: u32, end: u32, noted: &NumberMap) -> Attempt<Vec<u32>> {
         let mut met = IndexSet::new(self.alloc);
         let _ = met.insert_full(f)?;
         let mut found = Vec::new(self.alloc);
@@ -215,9 +215,9 @@ impl Bdd {
     }
 
     /// Returns the variables of a diagram that are below `end`, in ascending order.
-    pub fn support(&mut self, f: u32, end: u32) -> Found<Vec<u32>> {
+    pub fn support(&mut self, f: u32, end: u32) -> Attempt<Vec<u32>> {
         let mut support = Vec::new(self.alloc);
-        for g in &self.below(f, end, &Notes::new(self.alloc))? {
+        for g in &self.below(f, end, &NumberMap::new(self.alloc))? {
             support.push(self.top(*g))?;
         }
         support.sort_unstable();
@@ -226,7 +226,7 @@ impl Bdd {
     }
 
     /// Returns a diagram with each variable replaced by the diagram that `by` has for it, if there is one. Notes the results in `noted`.
-    pub fn replaced(&mut self, f: u32, by: &Notes, noted: &mut Notes) -> Found<u32> {
+    pub fn replaced(&mut self, f: u32, by: &NumberMap, noted: &mut NumberMap) -> Attempt<u32> {
         for g in &self.below(f, NONE, noted)? {
             let variable = self.top(*g);
             let mut test = by.get(variable);
@@ -243,7 +243,7 @@ impl Bdd {
     }
 
     /// Returns the note for a diagram; a constant stands for itself.
-    fn noted_or_same(&self, f: u32, noted: &Notes) -> u32 {
+    fn noted_or_same(&self, f: u32, noted: &NumberMap) -> u32 {
         if self.top(f) == NONE { f } else { noted.get(f) }
     }
 

@@ -1,12 +1,12 @@
 //! Breakpoints (Miyano and Hayashi, Theoretical Computer Science 32, 1984): a state is what is asked, and what of that is waited for.
 
-use crate::automaton::{Automaton, Edge};
+use crate::automaton::{MarkedAutomaton, MarkedEdge};
 use crate::bdd::{ALWAYS, NEVER};
-use crate::fault::{Found, TranslateFault};
+use crate::fault::{Attempt, TranslateFault};
 use crate::leaf::Leaf;
-use crate::lists::Lists;
+use crate::lists::NumberedLists;
 use crate::numbers::{MOST_EDGES, NONE, power, spread};
-use crate::pool::{FALSE, Operator, Pool, TRUE};
+use crate::pool::{FALSE, FormulaPool, Operator, TRUE};
 use crate::progress::Progress;
 
 /// A formula in Pi 2, whose states are explored.
@@ -16,11 +16,11 @@ struct Breakpoints {
     /// For `G F f`, the diagram of `F f`, the only formula that is waited for, again and again; else `NONE`.
     again: u32,
     /// What is asked and what is waited for in each state.
-    states: Lists,
+    states: NumberedLists,
 }
 
 /// Returns the formula that is waited for again and again: `F f` of `G F f`.
-fn recurring(pool: &Pool, f: u32) -> Option<u32> {
+fn recurring(pool: &FormulaPool, f: u32) -> Option<u32> {
     match (pool.operator(f), pool.operands(f)) {
         (Operator::Release, [FALSE, g]) if pool.operator(*g) == Operator::Until => {
             let left = pool.operands(*g).first().copied();
@@ -32,7 +32,7 @@ fn recurring(pool: &Pool, f: u32) -> Option<u32> {
 
 impl Breakpoints {
     /// Returns what is waited for next, once nothing is left to wait for.
-    fn waits(&mut self, pool: &mut Pool, asked: u32) -> Found<u32> {
+    fn waits(&mut self, pool: &mut FormulaPool, asked: u32) -> Attempt<u32> {
         if self.again != NONE {
             return Ok(self.again);
         }
@@ -40,7 +40,7 @@ impl Breakpoints {
     }
 
     /// Returns the edge to the state of what is asked and waited for.
-    fn edge(&mut self, pool: &mut Pool, asked: u32, waited: u32) -> Found<Edge> {
+    fn edge(&mut self, pool: &mut FormulaPool, asked: u32, waited: u32) -> Attempt<MarkedEdge> {
         let (state, mark) = match (asked, waited) {
             (NEVER, _) => ([NEVER, NEVER], 1),
             (ALWAYS, _) => ([ALWAYS, ALWAYS], 2),
@@ -48,12 +48,12 @@ impl Breakpoints {
             _ => ([asked, waited], 1),
         };
         let target = self.states.number(&state)?;
-        Ok(Edge { target, mark })
+        Ok(MarkedEdge { target, mark })
     }
 }
 
 /// Returns the automaton of a formula in Pi 2; `propositions` is the number of all propositions.
-pub fn by_breakpoints(pool: &mut Pool, f: u32, propositions: u32) -> Found<Leaf> {
+pub fn by_breakpoints(pool: &mut FormulaPool, f: u32, propositions: u32) -> Attempt<Leaf> {
     let mask = pool.facts(f).propositions;
     let mut progress = Progress::new(pool.alloc, propositions, false)?;
     let start = progress.ask(pool, f)?;
@@ -64,7 +64,7 @@ pub fn by_breakpoints(pool: &mut Pool, f: u32, propositions: u32) -> Found<Leaf>
     let mut points = Breakpoints {
         progress,
         again,
-        states: Lists::new(pool.alloc),
+        states: NumberedLists::new(pool.alloc),
     };
     let waited = points.waits(pool, start)?;
     points.states.number(&[start, waited])?;
@@ -93,6 +93,6 @@ pub fn by_breakpoints(pool: &mut Pool, f: u32, propositions: u32) -> Found<Leaf>
             return Err(TranslateFault::TooManyStates);
         }
     }
-    let automaton = Automaton::of_letters(pool.alloc, mask.count_ones(), &edges, keys)?;
+    let automaton = MarkedAutomaton::of_letters(pool.alloc, mask.count_ones(), &edges, keys)?;
     Leaf::new(&automaton, mask)
 }

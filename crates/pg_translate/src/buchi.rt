@@ -1,13 +1,13 @@
 //! A Buchi automaton of a formula: the tableau with a counter of Untils.
 
-use crate::components::Ranks;
-use crate::fault::{Found, TranslateFault};
-use crate::lists::Lists;
+use crate::components::ComponentRanks;
+use crate::fault::{Attempt, TranslateFault};
+use crate::lists::NumberedLists;
 use crate::numbers::{MOST_EDGES, between, count, is_marked, item, power, put, spread};
-use crate::pool::Pool;
-use crate::tableau::{Choice, Tableau};
+use crate::pool::FormulaPool;
+use crate::tableau::{ChoiceBits, Tableau};
 use indexmap::IndexSet;
-use pg_search_components::Rows;
+use pg_search_components::TargetRows;
 use std::alloc::Global;
 
 /// Where an edge leads, and whether it accepts.
@@ -79,12 +79,12 @@ impl Buchi {
 #[derive(Drop)]
 struct Sets {
     letters: u32,
-    choices: Vec<Choice>,
+    choices: Vec<ChoiceBits>,
     ends: Vec<u32>,
 }
 
 /// Returns the sets that are reached in the tableau of a formula over the propositions of a mask, and their choices.
-fn sets_of(pool: &Pool, f: u32, mask: u32) -> Found<Sets> {
+fn sets_of(pool: &FormulaPool, f: u32, mask: u32) -> Attempt<Sets> {
     let mut tableau = Tableau::new(pool);
     let mut sets = IndexSet::new(pool.alloc);
     let _ = sets.insert_full(tableau.asked(f)?.unwrap_or(0))?;
@@ -100,7 +100,7 @@ fn sets_of(pool: &Pool, f: u32, mask: u32) -> Found<Sets> {
         for local in 0..found.letters {
             for choice in &tableau.choices(set, spread(local, mask))? {
                 let (number, _) = sets.insert_full(choice.asks)?;
-                found.choices.push(Choice {
+                found.choices.push(ChoiceBits {
                     asks: number as u64,
                     puts: choice.puts,
                 })?;
@@ -116,7 +116,7 @@ fn sets_of(pool: &Pool, f: u32, mask: u32) -> Found<Sets> {
 
 impl Sets {
     /// Returns the choices of a set at a letter.
-    fn of(&self, set: u32, letter: u32) -> &[Choice] {
+    fn of(&self, set: u32, letter: u32) -> &[ChoiceBits] {
         let place = set.saturating_mul(self.letters).saturating_add(letter);
         let begin = if place == 0 {
             0
@@ -149,9 +149,9 @@ fn next_level(level: u32, all: u64, puts: u64) -> u32 {
 }
 
 /// Returns the edges of states that are sets with a level of the counter. An edge accepts if the counter comes to its end on it.
-fn counted(alloc: Global, sets: &Sets) -> Found<Arcs> {
+fn counted(alloc: Global, sets: &Sets) -> Attempt<Arcs> {
     let all = sets.puts();
-    let mut states = Lists::new(alloc);
+    let mut states = NumberedLists::new(alloc);
     states.number(&[0, 0])?;
     let mut found = Arcs {
         arcs: Vec::new(alloc),
@@ -180,15 +180,15 @@ fn counted(alloc: Global, sets: &Sets) -> Found<Arcs> {
 }
 
 /// Returns for each state whether a word is accepted from it.
-fn live(alloc: Global, arcs: &Arcs) -> Found<Vec<bool>> {
-    let mut rows = Rows::with_capacity(alloc, arcs.states() as usize)?;
+fn live(alloc: Global, arcs: &Arcs) -> Attempt<Vec<bool>> {
+    let mut rows = TargetRows::with_capacity(alloc, arcs.states() as usize)?;
     for state in 0..arcs.states() {
         for arc in arcs.of_state(state) {
             rows.push(arc.target)?;
         }
         rows.end()?;
     }
-    let ranks = Ranks::new(alloc, &rows, arcs.states())?;
+    let ranks = ComponentRanks::new(alloc, &rows, arcs.states())?;
     let mut is_live = vec![in alloc; false; ranks.many as usize]?;
     for state in &ranks.order(alloc)? {
         let rank = ranks.of(*state);
@@ -207,7 +207,7 @@ fn live(alloc: Global, arcs: &Arcs) -> Found<Vec<bool>> {
 }
 
 /// Returns the automaton of a formula over the propositions of a mask. Edges to states from which nothing is accepted are left out.
-pub fn buchi_of(pool: &Pool, f: u32, mask: u32) -> Found<Buchi> {
+pub fn buchi_of(pool: &FormulaPool, f: u32, mask: u32) -> Attempt<Buchi> {
     let arcs = counted(pool.alloc, &sets_of(pool, f, mask)?)?;
     let live = live(pool.alloc, &arcs)?;
     let words = arcs.states().div_ceil(32);

@@ -1,20 +1,20 @@
 //! The strongly connected component of each vertex.
 
-use crate::fault::Found;
+use crate::fault::Attempt;
 use crate::numbers::{NONE, at, put};
-use pg_search_components::{Components, Rows};
+use pg_search_components::{Components, TargetRows};
 use std::alloc::Global;
 
 /// The number of the component of each vertex. It is greater than the numbers of the components that this one leads to.
 #[derive(Drop)]
-pub struct Ranks {
+pub struct ComponentRanks {
     of: Vec<u32>,
     pub many: u32,
 }
 
-impl Ranks {
+impl ComponentRanks {
     /// Finds the components of the vertices below `vertices`.
-    pub fn new(alloc: Global, rows: &Rows, vertices: u32) -> Found<Ranks> {
+    pub fn new(alloc: Global, rows: &TargetRows, vertices: u32) -> Attempt<ComponentRanks> {
         let mut all = Vec::with_capacity(alloc, vertices as usize)?;
         for v in 0..vertices {
             all.push(v)?;
@@ -27,7 +27,7 @@ impl Ranks {
                 put(&mut of, *v, number);
             }
         }
-        Ok(Ranks {
+        Ok(ComponentRanks {
             of,
             many: components.len(),
         })
@@ -38,7 +38,7 @@ impl Ranks {
     }
 
     /// Returns the vertices in ascending order of the numbers of their components.
-    pub fn order(&self, alloc: Global) -> Found<Vec<u32>> {
+    pub fn order(&self, alloc: Global) -> Attempt<Vec<u32>> {
         let mut pairs = Vec::new(alloc);
         let mut v = 0u32;
         for rank in &self.of {

@@ -1,23 +1,28 @@
 //! The formulas that hold on a cycle that goes on for ever.
 
-use crate::automaton::Edge;
-use crate::components::Ranks;
-use crate::fault::Found;
-use crate::numbers::{NONE, Notes, at, count, has_bit, item, put};
-use crate::pool::{Operator, Pool, Reach};
-use crate::product::Product;
+use crate::automaton::MarkedEdge;
+use crate::components::ComponentRanks;
+use crate::fault::Attempt;
+use crate::numbers::{NONE, NumberMap, at, count, has_bit, item, put};
+use crate::pool::{Followed, FormulaPool, Operator};
+use crate::product::ColouredProduct;
 use std::alloc::Global;
 
 /// Returns the classes of letters on a shortest cycle from a state back to it inside its component, or none if there is no cycle.
-pub fn cycle(alloc: Global, product: &Product, ranks: &Ranks, start: u32) -> Found<Vec<u32>> {
-    let mut befores = Notes::new(alloc);
-    let mut classes = Notes::new(alloc);
+pub fn cycle(
+    alloc: Global,
+    product: &ColouredProduct,
+    ranks: &ComponentRanks,
+    start: u32,
+) -> Attempt<Vec<u32>> {
+    let mut befores = NumberMap::new(alloc);
+    let mut classes = NumberMap::new(alloc);
     let mut queue = vec![in alloc; start; 1]?;
     for turn in 0..product.states.len() {
         let Some(v) = queue.get(turn as usize).copied() else {
             break;
         };
-        for (class, Edge { target, .. }) in product.row(v).iter().enumerate() {
+        for (class, MarkedEdge { target, .. }) in product.row(v).iter().enumerate() {
             if ranks.of(*target) != ranks.of(start) || befores.get(*target) != NONE {
                 continue;
             }
@@ -35,11 +40,11 @@ pub fn cycle(alloc: Global, product: &Product, ranks: &Ranks, start: u32) -> Fou
 /// Returns the classes on the way from a state back to itself.
 fn way_back(
     alloc: Global,
-    befores: &Notes,
-    classes: &Notes,
+    befores: &NumberMap,
+    classes: &NumberMap,
     start: u32,
     most: u32,
-) -> Found<Vec<u32>> {
+) -> Attempt<Vec<u32>> {
     let mut way = Vec::new(alloc);
     let mut v = start;
     for _ in 0..most {
@@ -54,9 +59,9 @@ fn way_back(
 }
 
 /// Whether a formula holds of the word that repeats these letters for ever.
-pub fn holds_on(pool: &Pool, f: u32, letters: &[u32]) -> Found<bool> {
-    let parts = pool.parts(f, Reach::All)?;
-    let mut places = Notes::new(pool.alloc);
+pub fn holds_on(pool: &FormulaPool, f: u32, letters: &[u32]) -> Attempt<bool> {
+    let parts = pool.parts(f, Followed::All)?;
+    let mut places = NumberMap::new(pool.alloc);
     let mut found: Vec<Vec<bool>> = Vec::new(pool.alloc);
     for part in &parts {
         let values = values_of(pool, *part, letters, &places, &found)?;
@@ -71,12 +76,12 @@ pub fn holds_on(pool: &Pool, f: u32, letters: &[u32]) -> Found<bool> {
 
 /// Returns the values of a formula at each letter, from those of its operands.
 fn values_of(
-    pool: &Pool,
+    pool: &FormulaPool,
     f: u32,
     letters: &[u32],
-    places: &Notes,
+    places: &NumberMap,
     found: &[Vec<bool>],
-) -> Found<Vec<bool>> {
+) -> Attempt<Vec<bool>> {
     let operator = pool.operator(f);
     let operands = pool.operands(f);
     let value = |operand: u32, place: u32| -> bool {

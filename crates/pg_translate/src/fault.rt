@@ -34,4 +34,4 @@ impl<T: Drop> From<AllocFailed<T>> for TranslateFault {
 }
 
 /// A result, or why there is none.
-pub type Found<T> = Result<T, TranslateFault>;
+pub type Attempt<T> = Result<T, TranslateFault>;

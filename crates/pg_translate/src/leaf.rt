@@ -1,8 +1,8 @@
 //! Automata of temporal formulas, each over the propositions of its own formula.
 
-use crate::automaton::{Automaton, Edge};
+use crate::automaton::{MarkedAutomaton, MarkedEdge};
 use crate::bdd::{ALWAYS, NEVER};
-use crate::fault::Found;
+use crate::fault::Attempt;
 use crate::minimising::minimised;
 use crate::numbers::{NONE, at, count, gathered, item, power};
 
@@ -11,7 +11,7 @@ use crate::numbers::{NONE, at, count, gathered, item, power};
 pub struct Leaf {
     /// The propositions of the formula, as bits.
     pub propositions: u32,
-    automaton: Automaton,
+    automaton: MarkedAutomaton,
     /// For each state, the diagram of what it accepts if it is a sink: all or nothing; else `NONE`.
     pub decided: Vec<u32>,
     /// The priorities, in ascending order. Each except the least is a colour in the product of all leaves.
@@ -21,7 +21,7 @@ pub struct Leaf {
 }
 
 impl Leaf {
-    pub fn new(automaton: &Automaton, propositions: u32) -> Found<Leaf> {
+    pub fn new(automaton: &MarkedAutomaton, propositions: u32) -> Attempt<Leaf> {
         let automaton = minimised(automaton)?;
         let mut decided = Vec::new(automaton.alloc);
         for state in 0..automaton.len() {
@@ -62,7 +62,7 @@ impl Leaf {
     }
 
     /// Returns the edge of a state at a letter over all propositions.
-    pub fn step(&self, state: u32, letter: u32) -> Edge {
+    pub fn step(&self, state: u32, letter: u32) -> MarkedEdge {
         self.automaton
             .step(state, gathered(letter, self.propositions))
     }

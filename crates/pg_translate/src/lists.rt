@@ -1,12 +1,12 @@
 //! Numbers for lists: equal lists have the same number.
 
-use crate::fault::Found;
+use crate::fault::Attempt;
 use crate::numbers::{at, between, count, put};
 use std::alloc::Global;
 
 /// Lists, numbered from 0 on in the order in which they were added.
 #[derive(Drop)]
-pub struct Lists {
+pub struct NumberedLists {
     items: Vec<u32>,
     /// Where each list ends.
     ends: Vec<u32>,
@@ -24,9 +24,9 @@ fn sum_of(list: &[u32]) -> u64 {
     sum
 }
 
-impl Lists {
-    pub fn new(alloc: Global) -> Lists {
-        Lists {
+impl NumberedLists {
+    pub fn new(alloc: Global) -> NumberedLists {
+        NumberedLists {
             items: Vec::new(alloc),
             ends: Vec::new(alloc),
             slots: Vec::new(alloc),
@@ -72,7 +72,7 @@ impl Lists {
     }
 
     /// Returns the number of a list, which is added if it is new.
-    pub fn number(&mut self, list: &[u32]) -> Found<u32> {
+    pub fn number(&mut self, list: &[u32]) -> Attempt<u32> {
         if self.ends.len() >= self.slots.len() / 2 {
             self.grow()?;
         }
@@ -89,7 +89,7 @@ impl Lists {
     }
 
     /// Makes room for twice as many lists.
-    fn grow(&mut self) -> Found<()> {
+    fn grow(&mut self) -> Attempt<()> {
         let room = self.slots.len().saturating_mul(2).max(16);
         self.slots.clear();
         self.slots.resize(room, 0)?;

@@ -1,6 +1,6 @@
 //! Numbers in lists, sets of small numbers as bits, and budgets.
 
-use crate::fault::{Found, TranslateFault};
+use crate::fault::{Attempt, TranslateFault};
 pub use pg_search_components::{NONE, at, count};
 use std::alloc::Global;
 
@@ -81,13 +81,13 @@ pub fn gathered(number: u32, mask: u32) -> u32 {
 
 /// A map from numbers to numbers: `NONE` where nothing is noted.
 #[derive(Drop)]
-pub struct Notes {
+pub struct NumberMap {
     of: Vec<u32>,
 }
 
-impl Notes {
-    pub fn new(alloc: Global) -> Notes {
-        Notes {
+impl NumberMap {
+    pub fn new(alloc: Global) -> NumberMap {
+        NumberMap {
             of: Vec::new(alloc),
         }
     }
@@ -96,7 +96,7 @@ impl Notes {
         at(&self.of, number)
     }
 
-    pub fn set(&mut self, number: u32, noted: u32) -> Found<()> {
+    pub fn set(&mut self, number: u32, noted: u32) -> Attempt<()> {
         if self.of.len() <= number as usize {
             self.of.resize((number as usize).saturating_add(1), NONE)?;
         }
@@ -106,7 +106,7 @@ impl Notes {
 }
 
 /// Takes `many` steps from those that are left. Fails with `TooManySteps` once none are left.
-pub fn spend(steps: &mut u64, many: u64) -> Found<()> {
+pub fn spend(steps: &mut u64, many: u64) -> Attempt<()> {
     *steps = steps.saturating_sub(many);
     if *steps == 0 {
         return Err(TranslateFault::TooManySteps);

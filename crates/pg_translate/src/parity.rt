@@ -1,32 +1,32 @@
 //! The product with a memory for the colours, as a parity automaton.
 
-use crate::automaton::{Automaton, Edge};
+use crate::automaton::{MarkedAutomaton, MarkedEdge};
 use crate::bdd::{ALWAYS, NEVER};
-use crate::components::Ranks;
+use crate::components::ComponentRanks;
 use crate::cycles::{cycle, holds_on};
-use crate::fault::{Found, TranslateFault};
-use crate::lists::Lists;
-use crate::numbers::{MOST_EDGES, NONE, Notes, at, item, put};
-use crate::product::Product;
+use crate::fault::{Attempt, TranslateFault};
+use crate::lists::NumberedLists;
+use crate::numbers::{MOST_EDGES, NONE, NumberMap, at, item, put};
+use crate::product::ColouredProduct;
 use crate::skeleton::Skeleton;
 use crate::zielonka::{Climb, Condition, Tree};
-use pg_search_components::Rows;
+use pg_search_components::TargetRows;
 use std::alloc::Global;
 
 /// The product, with the tree of each of its components that has a cycle.
 #[derive(Drop)]
 struct Remembering {
-    product: Product,
-    ranks: Ranks,
+    product: ColouredProduct,
+    ranks: ComponentRanks,
     trees: Vec<Option<Tree>>,
     /// States with a memory; `entered` has how each is entered.
-    entries: Lists,
+    entries: NumberedLists,
     entered: Vec<Climb>,
 }
 
 /// Finds the components of the product.
-fn ranks_of(alloc: Global, product: &Product) -> Found<Ranks> {
-    let mut rows = Rows::with_capacity(alloc, product.states.len() as usize)?;
+fn ranks_of(alloc: Global, product: &ColouredProduct) -> Attempt<ComponentRanks> {
+    let mut rows = TargetRows::with_capacity(alloc, product.states.len() as usize)?;
     for state in 0..product.states.len() {
         let mut last = NONE;
         for edge in product.row(state) {
@@ -37,11 +37,15 @@ fn ranks_of(alloc: Global, product: &Product) -> Found<Ranks> {
         }
         rows.end()?;
     }
-    Ranks::new(alloc, &rows, product.states.len())
+    ComponentRanks::new(alloc, &rows, product.states.len())
 }
 
 /// Returns the colours of the edges inside each component: those that are met on some edge, and those on all.
-fn inner_colours(alloc: Global, product: &Product, ranks: &Ranks) -> Found<(Vec<u32>, Vec<u32>)> {
+fn inner_colours(
+    alloc: Global,
+    product: &ColouredProduct,
+    ranks: &ComponentRanks,
+) -> Attempt<(Vec<u32>, Vec<u32>)> {
     let mut some = vec![in alloc; 0u32; ranks.many as usize]?;
     let mut all = vec![in alloc; u32::MAX; ranks.many as usize]?;
     for state in 0..product.states.len() {
@@ -60,8 +64,8 @@ fn inner_colours(alloc: Global, product: &Product, ranks: &Ranks) -> Found<(Vec<
 
 impl Skeleton {
     /// Returns what is asked on a cycle of a component. Whatever is asked besides the leaves is settled there.
-    fn condition(&mut self, asked: u32, letters: &[u32]) -> Found<u32> {
-        let mut known = Notes::new(self.alloc);
+    fn condition(&mut self, asked: u32, letters: &[u32]) -> Attempt<u32> {
+        let mut known = NumberMap::new(self.alloc);
         for variable in &self.progress.bdd.support(asked, NONE)? {
             if self.leaf_of(*variable) == NONE {
                 let f = self.progress.formula(*variable);
@@ -69,12 +73,12 @@ impl Skeleton {
                 known.set(*variable, if holds { ALWAYS } else { NEVER })?;
             }
         }
-        let mut noted = Notes::new(self.alloc);
+        let mut noted = NumberMap::new(self.alloc);
         self.progress.bdd.replaced(asked, &known, &mut noted)
     }
 
     /// Returns the colours of the leaves of a diagram.
-    fn colours_of(&mut self, diagram: u32) -> Found<u32> {
+    fn colours_of(&mut self, diagram: u32) -> Attempt<u32> {
         let mut colours = 0;
         for variable in &self.progress.bdd.support(diagram, NONE)? {
             let number = self.leaf_of(*variable);
@@ -86,7 +90,11 @@ impl Skeleton {
     }
 
     /// Returns the tree of each component that has a cycle.
-    fn trees(&mut self, product: &Product, ranks: &Ranks) -> Found<Vec<Option<Tree>>> {
+    fn trees(
+        &mut self,
+        product: &ColouredProduct,
+        ranks: &ComponentRanks,
+    ) -> Attempt<Vec<Option<Tree>>> {
         let (some, all) = inner_colours(self.alloc, product, ranks)?;
         let examples = product.classes.examples(self.alloc)?;
         let mut trees = Vec::new(self.alloc);
@@ -122,8 +130,8 @@ impl Skeleton {
     }
 
     /// Returns numbers for the states of a product: states with the same number are known to accept the same words.
-    fn keys(&self, product: &Product) -> Found<Vec<u32>> {
-        let mut numbers = Lists::new(self.alloc);
+    fn keys(&self, product: &ColouredProduct) -> Attempt<Vec<u32>> {
+        let mut numbers = NumberedLists::new(self.alloc);
         let mut keys = Vec::new(self.alloc);
         for state in 0..product.states.len() {
             let mut key = Vec::from_slice(self.alloc, product.states.list(state))?;
@@ -136,7 +144,7 @@ impl Skeleton {
     }
 
     /// Returns the parity automaton of a product.
-    pub fn parity(&mut self, product: Product) -> Found<Automaton> {
+    pub fn parity(&mut self, product: ColouredProduct) -> Attempt<MarkedAutomaton> {
         let ranks = ranks_of(self.alloc, &product)?;
         let trees = self.trees(&product, &ranks)?;
         let of_product = self.keys(&product)?;
@@ -144,10 +152,10 @@ impl Skeleton {
             product,
             ranks,
             trees,
-            entries: Lists::new(self.alloc),
+            entries: NumberedLists::new(self.alloc),
             entered: Vec::new(self.alloc),
         };
-        let mut states = Lists::new(self.alloc);
+        let mut states = NumberedLists::new(self.alloc);
         let start = remembering.entered(self.alloc, 0, remembering.begin(0))?;
         states.number(&[0, start.next])?;
         let mut edges = Vec::new(self.alloc);
@@ -158,9 +166,9 @@ impl Skeleton {
             };
             keys.push(at(&of_product, state))?;
             for class in 0..remembering.product.classes.many {
-                let edge = item(remembering.product.row(state), class, Edge::NONE);
+                let edge = item(remembering.product.row(state), class, MarkedEdge::NONE);
                 let climb = remembering.step(self.alloc, state, leaf, edge)?;
-                edges.push(Edge {
+                edges.push(MarkedEdge {
                     target: states.number(&[edge.target, climb.next])?,
                     mark: climb.priority,
                 })?;
@@ -169,7 +177,7 @@ impl Skeleton {
                 return Err(TranslateFault::TooManyStates);
             }
         }
-        Ok(Automaton {
+        Ok(MarkedAutomaton {
             alloc: self.alloc,
             classes: remembering.product.classes,
             edges,
@@ -188,7 +196,7 @@ impl Remembering {
 
     /// Returns the memory with which a state is entered if `leaf` comes with it, and the greatest priority on the way: where each edge
     /// inside the component climbs anyhow, the memory climbs at once.
-    fn entered(&self, alloc: Global, state: u32, leaf: u32) -> Found<Climb> {
+    fn entered(&self, alloc: Global, state: u32, leaf: u32) -> Attempt<Climb> {
         let mut entered = Climb {
             next: leaf,
             priority: 0,
@@ -229,7 +237,7 @@ impl Remembering {
     }
 
     /// Returns the memory after an edge, and the priority of the edge.
-    fn step(&mut self, alloc: Global, state: u32, leaf: u32, edge: Edge) -> Found<Climb> {
+    fn step(&mut self, alloc: Global, state: u32, leaf: u32, edge: MarkedEdge) -> Attempt<Climb> {
         let stays = self.ranks.of(edge.target) == self.ranks.of(state);
         let climb = match self.tree(state) {
             Some(tree) if stays => tree.climb(leaf, edge.mark),

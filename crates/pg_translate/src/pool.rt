@@ -1,8 +1,8 @@
 //! Formulas in negation normal form, each stored once.
 
-use crate::fault::Found;
-use crate::lists::Lists;
-use crate::numbers::{NONE, Notes, count, item, power};
+use crate::fault::Attempt;
+use crate::lists::NumberedLists;
+use crate::numbers::{NONE, NumberMap, count, item, power};
 use indexmap::IndexSet;
 use std::alloc::Global;
 
@@ -65,7 +65,7 @@ pub struct Facts {
 
 /// Which operators are followed from a formula to its parts.
 #[derive(Clone, Copy, PartialEq, Eq)]
-pub enum Reach {
+pub enum Followed {
     Junctions,
     /// The operators that don't look ahead: all but Next.
     Now,
@@ -73,36 +73,36 @@ pub enum Reach {
     All,
 }
 
-impl Reach {
+impl Followed {
     fn goes_by(self, operator: Operator) -> bool {
         match self {
-            Reach::Junctions => operator.is_junction(),
-            Reach::Now => operator != Operator::Next,
-            Reach::JunctionsAndNext => operator.is_junction() || operator == Operator::Next,
-            Reach::All => true,
+            Followed::Junctions => operator.is_junction(),
+            Followed::Now => operator != Operator::Next,
+            Followed::JunctionsAndNext => operator.is_junction() || operator == Operator::Next,
+            Followed::All => true,
         }
     }
 }
 
 /// Formulas by number. Operands have smaller numbers than the formulas made of them.
 #[derive(Drop)]
-pub struct Pool {
+pub struct FormulaPool {
     pub alloc: Global,
     nodes: IndexSet<Node>,
-    lists: Lists,
+    lists: NumberedLists,
     facts: Vec<Facts>,
-    negations: Notes,
+    negations: NumberMap,
 }
 
-impl Pool {
+impl FormulaPool {
     /// Returns a pool with the formulas false and true.
-    pub fn new(alloc: Global) -> Found<Pool> {
-        let mut pool = Pool {
+    pub fn new(alloc: Global) -> Attempt<FormulaPool> {
+        let mut pool = FormulaPool {
             alloc,
             nodes: IndexSet::new(alloc),
-            lists: Lists::new(alloc),
+            lists: NumberedLists::new(alloc),
             facts: Vec::new(alloc),
-            negations: Notes::new(alloc),
+            negations: NumberMap::new(alloc),
         };
         for operator in [Operator::False, Operator::True] {
             pool.add(operator, &[])?;
@@ -133,7 +133,7 @@ impl Pool {
     }
 
     /// Returns the formula of an operator and operands, which is added if it is new.
-    pub fn add(&mut self, operator: Operator, operands: &[u32]) -> Found<u32> {
+    pub fn add(&mut self, operator: Operator, operands: &[u32]) -> Attempt<u32> {
         let operands = self.lists.number(operands)?;
         let (number, is_new) = self.nodes.insert_full(Node { operator, operands })?;
         if is_new {
@@ -184,7 +184,7 @@ impl Pool {
     }
 
     /// Returns the parts of a formula that are reached through the operators of `reach`, operands first and the formula itself last.
-    pub fn parts(&self, f: u32, reach: Reach) -> Found<Vec<u32>> {
+    pub fn parts(&self, f: u32, reach: Followed) -> Attempt<Vec<u32>> {
         let mut parts = IndexSet::new(self.alloc);
         let _ = parts.insert_full(f)?;
         for place in 0..u32::MAX {
@@ -203,8 +203,8 @@ impl Pool {
     }
 
     /// Returns the negation of a formula.
-    pub fn negation(&mut self, f: u32) -> Found<u32> {
-        for part in &self.parts(f, Reach::All)? {
+    pub fn negation(&mut self, f: u32) -> Attempt<u32> {
+        for part in &self.parts(f, Followed::All)? {
             if self.negations.get(*part) != NONE {
                 continue;
             }

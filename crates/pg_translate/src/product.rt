@@ -1,36 +1,38 @@
 //! The product of what is progressed and all leaves, with the colours of the leaves.
 
-use crate::automaton::{Classes, Edge};
+use crate::automaton::{Classes, MarkedEdge};
 use crate::bdd::NEVER;
-use crate::fault::{Found, TranslateFault};
-use crate::lists::Lists;
-use crate::numbers::{MOST_EDGES, NONE, Notes, between, count, gathered, item, power, put, spread};
+use crate::fault::{Attempt, TranslateFault};
+use crate::lists::NumberedLists;
+use crate::numbers::{
+    MOST_EDGES, NONE, NumberMap, between, count, gathered, item, power, put, spread,
+};
 use crate::skeleton::Skeleton;
 use std::alloc::Global;
 
 /// The product. Its edges are marked with the colours that are met.
 #[derive(Drop)]
-pub struct Product {
+pub struct ColouredProduct {
     /// For each state, the diagram of what is asked and the state of each leaf, or `NONE` for a leaf that no longer matters.
-    pub states: Lists,
+    pub states: NumberedLists,
     pub classes: Classes,
     /// The edge of each class, state by state.
-    edges: Vec<Edge>,
+    edges: Vec<MarkedEdge>,
 }
 
 /// The states that were met, and the edges of those that were looked at, letter by letter over the propositions of each state's mask.
 #[derive(Drop)]
 struct Exploring {
-    states: Lists,
+    states: NumberedLists,
     masks: Vec<u32>,
-    edges: Vec<Edge>,
+    edges: Vec<MarkedEdge>,
     /// Where the edges of each state end.
     ends: Vec<u32>,
 }
 
-impl Product {
+impl ColouredProduct {
     /// Returns the edges of a state, by class.
-    pub fn row(&self, state: u32) -> &[Edge] {
+    pub fn row(&self, state: u32) -> &[MarkedEdge] {
         let from = state.saturating_mul(self.classes.many);
         between(&self.edges, from, from.saturating_add(self.classes.many))
     }
@@ -44,13 +46,13 @@ impl Product {
 impl Skeleton {
     /// Returns the state of the product for what is asked and the states of the leaves. Leaves that are decided are put into the diagram,
     /// and leaves that it doesn't look at don't matter.
-    fn settled(&mut self, list: &[u32]) -> Found<Vec<u32>> {
+    fn settled(&mut self, list: &[u32]) -> Attempt<Vec<u32>> {
         let mut settled = Vec::from_slice(self.alloc, list)?;
         for _ in 0..list.len() {
             let f = item(&settled, 0, NEVER);
             let support = self.progress.bdd.support(f, NONE)?;
             let mut matters = vec![in self.alloc; false; list.len()]?;
-            let mut known = Notes::new(self.alloc);
+            let mut known = NumberMap::new(self.alloc);
             let mut is_clear = true;
             for variable in &support {
                 let number = self.leaf_of(*variable);
@@ -73,7 +75,7 @@ impl Skeleton {
                 }
                 break;
             }
-            let mut noted = Notes::new(self.alloc);
+            let mut noted = NumberMap::new(self.alloc);
             let left = self.progress.bdd.replaced(f, &known, &mut noted)?;
             put(&mut settled, 0, left);
         }
@@ -94,7 +96,7 @@ impl Skeleton {
     }
 
     /// Returns the propositions on which the edges of a state depend; `next` is what is asked of a letter and the rest after it.
-    fn mask(&mut self, list: &[u32], next: u32) -> Found<u32> {
+    fn mask(&mut self, list: &[u32], next: u32) -> Attempt<u32> {
         let mut mask = 0;
         for proposition in &self.progress.bdd.support(next, self.progress.propositions)? {
             mask |= power(*proposition);
@@ -108,12 +110,12 @@ impl Skeleton {
     }
 
     /// Finds the edges of a state.
-    fn explore(&mut self, exploring: &mut Exploring, number: u32) -> Found<()> {
+    fn explore(&mut self, exploring: &mut Exploring, number: u32) -> Attempt<()> {
         let list = Vec::from_slice(self.alloc, exploring.states.list(number))?;
         let asked = item(&list, 0, NEVER);
         let next = self.progress.step(&mut self.pool, asked)?;
         let mask = self.mask(&list, next)?;
-        let mut seen = Lists::new(self.alloc);
+        let mut seen = NumberedLists::new(self.alloc);
         let mut targets = Vec::new(self.alloc);
         for local in 0..power(mask.count_ones()) {
             let letter = spread(local, mask);
@@ -130,7 +132,7 @@ impl Skeleton {
                 targets.push(exploring.states.number(&settled)?)?;
             }
             let target = item(&targets, place, 0);
-            exploring.edges.push(Edge { target, mark })?;
+            exploring.edges.push(MarkedEdge { target, mark })?;
         }
         exploring.masks.push(mask)?;
         exploring.ends.push(count(exploring.edges.len()))?;
@@ -138,12 +140,12 @@ impl Skeleton {
     }
 
     /// Returns the product that begins with what is asked.
-    pub fn product(&mut self, asked: u32) -> Found<Product> {
+    pub fn product(&mut self, asked: u32) -> Attempt<ColouredProduct> {
         let mut start = vec![in self.alloc; 0u32; self.leaves.len().saturating_add(1)]?;
         put(&mut start, 0, asked);
         let start = self.settled(&start)?;
         let mut exploring = Exploring {
-            states: Lists::new(self.alloc),
+            states: NumberedLists::new(self.alloc),
             masks: Vec::new(self.alloc),
             edges: Vec::new(self.alloc),
             ends: Vec::new(self.alloc),
@@ -163,7 +165,7 @@ impl Skeleton {
 }
 
 /// Returns the product with its letters in classes.
-fn by_classes(alloc: Global, exploring: Exploring, propositions: u32) -> Found<Product> {
+fn by_classes(alloc: Global, exploring: Exploring, propositions: u32) -> Attempt<ColouredProduct> {
     let mut classes = Classes::new(alloc, propositions)?;
     let mut begin = 0;
     for (end, mask) in exploring.ends.iter().zip(&exploring.masks) {
@@ -180,11 +182,11 @@ fn by_classes(alloc: Global, exploring: Exploring, propositions: u32) -> Found<P
     for (end, mask) in exploring.ends.iter().zip(&exploring.masks) {
         let row = between(&exploring.edges, begin, *end);
         for letter in &examples {
-            edges.push(item(row, gathered(*letter, *mask), Edge::NONE))?;
+            edges.push(item(row, gathered(*letter, *mask), MarkedEdge::NONE))?;
         }
         begin = *end;
     }
-    Ok(Product {
+    Ok(ColouredProduct {
         states: exploring.states,
         classes,
         edges,

@@ -2,9 +2,9 @@
 //! 2000; Esparza, Kretinsky and Sickert, Journal of the ACM 67, 2020).
 
 use crate::bdd::{ALWAYS, Bdd, NEVER};
-use crate::fault::Found;
-use crate::numbers::{NONE, Notes, at, count};
-use crate::pool::{Operator, Pool, Reach, TRUE};
+use crate::fault::Attempt;
+use crate::numbers::{NONE, NumberMap, at, count};
+use crate::pool::{Followed, FormulaPool, Operator, TRUE};
 use std::alloc::Global;
 
 /// The most steps that are made with diagrams.
@@ -22,32 +22,32 @@ pub struct Progress {
     shares: bool,
     /// For each formula, its diagram where it is asked of the rest; `expansions` has its diagram where it is asked of a letter and the rest
     /// after it.
-    asked: Notes,
-    expansions: Notes,
+    asked: NumberMap,
+    expansions: NumberMap,
     /// For each variable, what it asks of the next letter, and in `flat` what of it is waited for. `stepped` and `flattened` have the same
     /// for diagrams.
-    next: Notes,
-    stepped: Notes,
-    flat: Notes,
-    flattened: Notes,
+    next: NumberMap,
+    stepped: NumberMap,
+    flat: NumberMap,
+    flattened: NumberMap,
     /// For each formula, what is left of it if everything that may last for ever does.
-    lasting: Notes,
+    lasting: NumberMap,
 }
 
 impl Progress {
-    pub fn new(alloc: Global, propositions: u32, shares: bool) -> Found<Progress> {
+    pub fn new(alloc: Global, propositions: u32, shares: bool) -> Attempt<Progress> {
         Ok(Progress {
             bdd: Bdd::new(alloc, STEPS)?,
             propositions,
             atoms: Vec::new(alloc),
             shares,
-            asked: Notes::new(alloc),
-            expansions: Notes::new(alloc),
-            next: Notes::new(alloc),
-            stepped: Notes::new(alloc),
-            flat: Notes::new(alloc),
-            flattened: Notes::new(alloc),
-            lasting: Notes::new(alloc),
+            asked: NumberMap::new(alloc),
+            expansions: NumberMap::new(alloc),
+            next: NumberMap::new(alloc),
+            stepped: NumberMap::new(alloc),
+            flat: NumberMap::new(alloc),
+            flattened: NumberMap::new(alloc),
+            lasting: NumberMap::new(alloc),
         })
     }
 
@@ -57,13 +57,13 @@ impl Progress {
     }
 
     /// Notes that an atom stays as it is.
-    pub fn fix(&mut self, variable: u32) -> Found<()> {
+    pub fn fix(&mut self, variable: u32) -> Attempt<()> {
         let same = self.bdd.variable(variable)?;
         self.next.set(variable, same)
     }
 
     /// Returns the atom of a formula as a diagram.
-    pub fn atom(&mut self, pool: &mut Pool, f: u32) -> Found<u32> {
+    pub fn atom(&mut self, pool: &mut FormulaPool, f: u32) -> Attempt<u32> {
         let known = self.asked.get(f);
         if known != NONE {
             return Ok(known);
@@ -83,7 +83,7 @@ impl Progress {
     }
 
     /// Returns the conjunction or disjunction of diagrams.
-    pub fn joined(&mut self, operator: Operator, notes: &[u32]) -> Found<u32> {
+    pub fn joined(&mut self, operator: Operator, notes: &[u32]) -> Attempt<u32> {
         let mut all = if operator == Operator::All {
             ALWAYS
         } else {
@@ -100,8 +100,8 @@ impl Progress {
     }
 
     /// Returns the diagram of a formula that is asked of the rest.
-    pub fn ask(&mut self, pool: &mut Pool, f: u32) -> Found<u32> {
-        for part in &pool.parts(f, Reach::Junctions)? {
+    pub fn ask(&mut self, pool: &mut FormulaPool, f: u32) -> Attempt<u32> {
+        for part in &pool.parts(f, Followed::Junctions)? {
             if self.asked.get(*part) != NONE {
                 continue;
             }
@@ -126,8 +126,8 @@ impl Progress {
     }
 
     /// Returns the diagram of what a formula asks of a letter and of the rest after it.
-    fn expansion(&mut self, pool: &mut Pool, f: u32) -> Found<u32> {
-        for part in &pool.parts(f, Reach::Now)? {
+    fn expansion(&mut self, pool: &mut FormulaPool, f: u32) -> Attempt<u32> {
+        for part in &pool.parts(f, Followed::Now)? {
             if self.expansions.get(*part) == NONE {
                 let diagram = self.expanded(pool, *part)?;
                 self.expansions.set(*part, diagram)?;
@@ -137,7 +137,7 @@ impl Progress {
     }
 
     /// Returns the diagram of what a formula asks of a letter and of the rest after it, once the diagrams of its operands are known.
-    fn expanded(&mut self, pool: &mut Pool, f: u32) -> Found<u32> {
+    fn expanded(&mut self, pool: &mut FormulaPool, f: u32) -> Attempt<u32> {
         let operator = pool.operator(f);
         let operands = noted(pool, f, &self.expansions)?;
         match (operator, operands.as_slice()) {
@@ -170,7 +170,7 @@ impl Progress {
     }
 
     /// Returns what a diagram asks of the next letter and of the rest after it.
-    pub fn step(&mut self, pool: &mut Pool, f: u32) -> Found<u32> {
+    pub fn step(&mut self, pool: &mut FormulaPool, f: u32) -> Attempt<u32> {
         for variable in &self.bdd.support(f, NONE)? {
             if self.next.get(*variable) == NONE {
                 let atom = self.formula(*variable);
@@ -182,7 +182,7 @@ impl Progress {
     }
 
     /// Returns what of a diagram is left to wait for, if everything that may last for ever does.
-    pub fn waits(&mut self, pool: &mut Pool, f: u32) -> Found<u32> {
+    pub fn waits(&mut self, pool: &mut FormulaPool, f: u32) -> Attempt<u32> {
         for variable in &self.bdd.support(f, NONE)? {
             if self.flat.get(*variable) == NONE {
                 let awaited = self.awaited(pool, self.formula(*variable))?;
@@ -194,8 +194,8 @@ impl Progress {
     }
 
     /// Returns what is left of a formula, if everything that may last for ever does.
-    fn awaited(&mut self, pool: &mut Pool, f: u32) -> Found<u32> {
-        for part in &pool.parts(f, Reach::JunctionsAndNext)? {
+    fn awaited(&mut self, pool: &mut FormulaPool, f: u32) -> Attempt<u32> {
+        for part in &pool.parts(f, Followed::JunctionsAndNext)? {
             let operator = pool.operator(*part);
             let awaited = match operator {
                 Operator::Release => TRUE,
@@ -212,7 +212,7 @@ impl Progress {
 }
 
 /// Returns the notes for the operands of a formula.
-fn noted(pool: &Pool, f: u32, notes: &Notes) -> Found<Vec<u32>> {
+fn noted(pool: &FormulaPool, f: u32, notes: &NumberMap) -> Attempt<Vec<u32>> {
     let mut operands = Vec::new(pool.alloc);
     for operand in pool.operands(f) {
         operands.push(notes.get(*operand))?;

@@ -3,7 +3,7 @@
 use crate::fault::TranslateFault;
 use crate::minimising::minimised;
 use crate::numbers::count;
-use crate::pool::Pool;
+use crate::pool::FormulaPool;
 use crate::skeleton::Skeleton;
 use crate::writing::text_of;
 use pg_ltl::{Formula, normal_form};
@@ -31,7 +31,7 @@ pub fn propose(
         return Err(TranslateFault::TooManyStates);
     }
     let normal = normal_form(alloc, formula, true)?;
-    let mut pool = Pool::new(alloc)?;
+    let mut pool = FormulaPool::new(alloc)?;
     let root = pool.read(&normal.nodes, normal.root)?;
     let mut skeleton = Skeleton::new(pool, count(names.len()))?;
     let asked = skeleton.diagram(root)?;

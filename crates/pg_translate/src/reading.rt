@@ -1,8 +1,8 @@
 //! Reads a formula in negation normal form from the list of its parts.
 
-use crate::fault::Found;
+use crate::fault::Attempt;
 use crate::numbers::{at, count};
-use crate::pool::{Operator, Pool};
+use crate::pool::{FormulaPool, Operator};
 use pg_ltl::NormalNode;
 
 /// Returns the operator of a part, the places of its operands, and how many operands there are.
@@ -19,9 +19,9 @@ fn taken_apart(node: NormalNode) -> (Operator, [usize; 2], usize) {
     }
 }
 
-impl Pool {
+impl FormulaPool {
     /// Returns the formula at place `root` of a list in which operands come before the formulas made of them.
-    pub fn read(&mut self, nodes: &[NormalNode], root: usize) -> Found<u32> {
+    pub fn read(&mut self, nodes: &[NormalNode], root: usize) -> Attempt<u32> {
         let mut needed = vec![in self.alloc; false; nodes.len()]?;
         for place in (0..nodes.len()).rev() {
             if place == root {

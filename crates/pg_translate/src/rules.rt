@@ -1,8 +1,8 @@
 //! Rewrites formulas as they are made.
 
-use crate::fault::Found;
+use crate::fault::Attempt;
 use crate::numbers::power;
-use crate::pool::{FALSE, Operator, Pool, TRUE};
+use crate::pool::{FALSE, FormulaPool, Operator, TRUE};
 
 /// Returns two constants: the one that a junction drops from its parts, and the one that it becomes if that is a part.
 fn unit_and_zero(operator: Operator) -> (u32, u32) {
@@ -22,9 +22,9 @@ fn junction_of(operator: Operator) -> Operator {
     }
 }
 
-impl Pool {
+impl FormulaPool {
     /// Returns the formula of an operator and its operands, simplified.
-    pub fn make(&mut self, operator: Operator, operands: &[u32]) -> Found<u32> {
+    pub fn make(&mut self, operator: Operator, operands: &[u32]) -> Attempt<u32> {
         match (operator, operands) {
             (Operator::True, _) => Ok(TRUE),
             (Operator::Literal(_, _), _) => self.add(operator, &[]),
@@ -36,7 +36,7 @@ impl Pool {
     }
 
     /// Returns the conjunction or disjunction of the parts, simplified.
-    pub fn join(&mut self, operator: Operator, parts: &[u32]) -> Found<u32> {
+    pub fn join(&mut self, operator: Operator, parts: &[u32]) -> Attempt<u32> {
         let (unit, zero) = unit_and_zero(operator);
         let mut flat = Vec::new(self.alloc);
         for f in parts {
@@ -72,7 +72,7 @@ impl Pool {
     }
 
     /// Returns `X f`, or `f` itself if it is a constant or suspendable.
-    pub fn next(&mut self, f: u32) -> Found<u32> {
+    pub fn next(&mut self, f: u32) -> Attempt<u32> {
         if f <= TRUE || self.facts(f).is_suspendable {
             return Ok(f);
         }
@@ -80,7 +80,7 @@ impl Pool {
     }
 
     /// Returns `left U right`, or by duality `left R right`; the rules are written for U. `F X f` is `X F f`, and `F (f U g)` is `F g`.
-    pub fn temporal(&mut self, operator: Operator, left: u32, right: u32) -> Found<u32> {
+    pub fn temporal(&mut self, operator: Operator, left: u32, right: u32) -> Attempt<u32> {
         let yes = unit_and_zero(junction_of(operator)).0;
         let mut right = right;
         let mut nexts = 0u32;
@@ -105,7 +105,7 @@ impl Pool {
     }
 
     /// Returns `left U right` or `left R right`, where `right` may have suspendable parts.
-    fn temporal_of_any(&mut self, operator: Operator, left: u32, right: u32) -> Found<u32> {
+    fn temporal_of_any(&mut self, operator: Operator, left: u32, right: u32) -> Attempt<u32> {
         let junction = junction_of(operator);
         if self.operator(right) != junction {
             return self.temporal_of_plain(operator, left, right);
@@ -125,7 +125,7 @@ impl Pool {
     }
 
     /// Returns `left U right` or `left R right`, where `right` has no suspendable parts.
-    fn temporal_of_plain(&mut self, operator: Operator, left: u32, right: u32) -> Found<u32> {
+    fn temporal_of_plain(&mut self, operator: Operator, left: u32, right: u32) -> Attempt<u32> {
         let no = unit_and_zero(junction_of(operator)).1;
         let is_same = self.operator(right) == operator
             && self.operands(right).first().copied() == Some(left);

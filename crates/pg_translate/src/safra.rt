@@ -1,13 +1,13 @@
 //! Safra's trees (Foundations of Computer Science, 1988), with nodes in the order of their age (Piterman, Logical Methods in Computer
 //! Science 3, 2007).
 
-use crate::automaton::{Automaton, Edge};
+use crate::automaton::{MarkedAutomaton, MarkedEdge};
 use crate::buchi::{Buchi, buchi_of};
-use crate::fault::{Found, TranslateFault};
+use crate::fault::{Attempt, TranslateFault};
 use crate::leaf::Leaf;
-use crate::lists::Lists;
+use crate::lists::NumberedLists;
 use crate::numbers::{MOST_EDGES, NONE, count, has_bit, is_marked, item, put, spend};
-use crate::pool::Pool;
+use crate::pool::FormulaPool;
 use std::alloc::Global;
 
 /// The most steps from node to node that are made.
@@ -46,7 +46,7 @@ fn image(
     label: &[u32],
     letter: u32,
     accepting: bool,
-) -> Found<Vec<u32>> {
+) -> Attempt<Vec<u32>> {
     let mut image = vec![in alloc; 0u32; buchi.words as usize]?;
     let mut first = 0u32;
     for word in label {
@@ -66,7 +66,7 @@ fn image(
 
 impl Tree {
     /// Returns the tree that was written as a list; each label has `words` words.
-    fn read(alloc: Global, list: &[u32], words: u32) -> Found<Tree> {
+    fn read(alloc: Global, list: &[u32], words: u32) -> Attempt<Tree> {
         let mut nodes = Vec::new(alloc);
         for part in list.chunks((words as usize).saturating_add(1)) {
             if let Some((parent, label)) = part.split_first() {
@@ -80,7 +80,7 @@ impl Tree {
     }
 
     /// Returns the nodes after a letter, and for each a new child with what was accepted, before anything is left out.
-    fn grown(&self, alloc: Global, buchi: &Buchi, letter: u32) -> Found<Tree> {
+    fn grown(&self, alloc: Global, buchi: &Buchi, letter: u32) -> Attempt<Tree> {
         let mut nodes = Vec::new(alloc);
         for node in &self.nodes {
             nodes.push(Node {
@@ -116,7 +116,7 @@ impl Tree {
     }
 
     /// Whether the labels of a node's children together are all of its label.
-    fn is_fulfilled(&self, alloc: Global, place: u32) -> Found<bool> {
+    fn is_fulfilled(&self, alloc: Global, place: u32) -> Attempt<bool> {
         let Some(node) = self.nodes.get(place as usize) else {
             return Ok(false);
         };
@@ -134,7 +134,7 @@ impl Tree {
 
     /// Returns which nodes go, and the least event: 2 i if node i was fulfilled, 2 i - 1 if it went, or `NONE`. The first `old` nodes were
     /// there before.
-    fn leavers(&self, alloc: Global, old: u32) -> Found<(Vec<bool>, u32)> {
+    fn leavers(&self, alloc: Global, old: u32) -> Attempt<(Vec<bool>, u32)> {
         let mut goes = vec![in alloc; false; self.nodes.len()]?;
         let mut event = NONE;
         for (place, node) in self.nodes.iter().enumerate() {
@@ -163,7 +163,7 @@ impl Tree {
     }
 
     /// Returns the nodes that stay, as a list.
-    fn written(&self, alloc: Global, goes: &[bool]) -> Found<Vec<u32>> {
+    fn written(&self, alloc: Global, goes: &[bool]) -> Attempt<Vec<u32>> {
         let mut places = vec![in alloc; 0u32; self.nodes.len()]?;
         let mut list = Vec::new(alloc);
         let mut many = 0u32;
@@ -187,7 +187,7 @@ fn step(
     list: &[u32],
     letter: u32,
     steps: &mut u64,
-) -> Found<(Vec<u32>, u32)> {
+) -> Attempt<(Vec<u32>, u32)> {
     if list.is_empty() {
         return Ok((Vec::new(alloc), 1));
     }
@@ -204,15 +204,15 @@ fn step(
 }
 
 /// Returns the automaton of any formula.
-pub fn by_trees(pool: &Pool, f: u32) -> Found<Leaf> {
+pub fn by_trees(pool: &FormulaPool, f: u32) -> Attempt<Leaf> {
     let alloc = pool.alloc;
     let mask = pool.facts(f).propositions;
     let buchi = buchi_of(pool, f, mask)?;
-    let mut trees = Lists::new(alloc);
+    let mut trees = NumberedLists::new(alloc);
     let mut root = vec![in alloc; 0u32; (buchi.words as usize).saturating_add(1)]?;
     put(&mut root, 1, 1);
     trees.number(&root)?;
-    let mut labels = Lists::new(alloc);
+    let mut labels = NumberedLists::new(alloc);
     let mut edges = Vec::new(alloc);
     let mut keys = Vec::new(alloc);
     let mut steps = STEPS;
@@ -226,19 +226,19 @@ pub fn by_trees(pool: &Pool, f: u32) -> Found<Leaf> {
         for letter in 0..buchi.letters {
             let (next, mark) = step(alloc, &buchi, &list, letter, &mut steps)?;
             let target = trees.number(&next)?;
-            edges.push(Edge { target, mark })?;
+            edges.push(MarkedEdge { target, mark })?;
         }
         if edges.len() > MOST_EDGES {
             return Err(TranslateFault::TooManyStates);
         }
     }
     turn(&mut edges);
-    let automaton = Automaton::of_letters(alloc, mask.count_ones(), &edges, keys)?;
+    let automaton = MarkedAutomaton::of_letters(alloc, mask.count_ones(), &edges, keys)?;
     Leaf::new(&automaton, mask)
 }
 
 /// Turns events, of which the least counts, into priorities.
-fn turn(edges: &mut [Edge]) {
+fn turn(edges: &mut [MarkedEdge]) {
     let mut most = 0u32;
     for edge in edges.iter() {
         if edge.mark != NONE {

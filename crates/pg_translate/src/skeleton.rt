@@ -2,10 +2,10 @@
 //! a leaf, an automaton of its own.
 
 use crate::breakpoints::by_breakpoints;
-use crate::fault::{Found, TranslateFault};
+use crate::fault::{Attempt, TranslateFault};
 use crate::leaf::Leaf;
-use crate::numbers::{NONE, Notes, count};
-use crate::pool::{FALSE, Operator, Pool, TRUE};
+use crate::numbers::{NONE, NumberMap, count};
+use crate::pool::{FALSE, FormulaPool, Operator, TRUE};
 use crate::progress::Progress;
 use crate::safra::by_trees;
 use std::alloc::Global;
@@ -14,25 +14,25 @@ use std::alloc::Global;
 #[derive(Drop)]
 pub struct Skeleton {
     pub alloc: Global,
-    pub pool: Pool,
+    pub pool: FormulaPool,
     pub progress: Progress,
     pub leaves: Vec<Leaf>,
     /// The leaf of a variable, if it has one.
-    leaf_of: Notes,
+    leaf_of: NumberMap,
     /// The diagrams of formulas.
-    known: Notes,
+    known: NumberMap,
 }
 
 impl Skeleton {
-    pub fn new(pool: Pool, propositions: u32) -> Found<Skeleton> {
+    pub fn new(pool: FormulaPool, propositions: u32) -> Attempt<Skeleton> {
         let alloc = pool.alloc;
         Ok(Skeleton {
             alloc,
             pool,
             progress: Progress::new(alloc, propositions, true)?,
             leaves: Vec::new(alloc),
-            leaf_of: Notes::new(alloc),
-            known: Notes::new(alloc),
+            leaf_of: NumberMap::new(alloc),
+            known: NumberMap::new(alloc),
         })
     }
 
@@ -42,7 +42,7 @@ impl Skeleton {
     }
 
     /// Returns the diagram of a formula, and makes the leaves that it needs.
-    pub fn diagram(&mut self, f: u32) -> Found<u32> {
+    pub fn diagram(&mut self, f: u32) -> Attempt<u32> {
         let mut stack = vec![in self.alloc; f; 1]?;
         for _ in 0..u64::MAX {
             let Some(g) = stack.last().copied() else {
@@ -66,7 +66,7 @@ impl Skeleton {
     }
 
     /// Returns the formulas whose diagrams the diagram of a formula needs: its operands, or one formula that says the same.
-    fn needed(&mut self, f: u32) -> Found<Vec<u32>> {
+    fn needed(&mut self, f: u32) -> Attempt<Vec<u32>> {
         if self.pool.operator(f).is_junction() {
             return Ok(Vec::from_slice(self.alloc, self.pool.operands(f))?);
         }
@@ -84,7 +84,7 @@ impl Skeleton {
     }
 
     /// Returns `X` of a junction, `G` of a conjunction or `F` of a disjunction as a junction, and any other formula as it is.
-    fn distributed(&mut self, f: u32) -> Found<u32> {
+    fn distributed(&mut self, f: u32) -> Attempt<u32> {
         let operator = self.pool.operator(f);
         let operands = Vec::from_slice(self.alloc, self.pool.operands(f))?;
         let Some(inner) = operands.last().copied() else {
@@ -112,7 +112,7 @@ impl Skeleton {
     }
 
     /// Returns the diagram of a formula, once the diagrams that it needs are known.
-    fn joined(&mut self, f: u32, needed: &[u32]) -> Found<u32> {
+    fn joined(&mut self, f: u32, needed: &[u32]) -> Attempt<u32> {
         let operator = self.pool.operator(f);
         let facts = self.pool.facts(f);
         if operator.is_junction() {
@@ -130,7 +130,7 @@ impl Skeleton {
     }
 
     /// Returns the diagram of a formula that is a leaf or the negation of one.
-    fn leaf(&mut self, f: u32) -> Found<u32> {
+    fn leaf(&mut self, f: u32) -> Attempt<u32> {
         let negation = self.pool.negation(f)?;
         let facts = self.pool.facts(f);
         let is_positive = facts.pi <= 2 || facts.sigma > 2 && f < negation;
@@ -155,7 +155,7 @@ impl Skeleton {
     }
 
     /// Gives the leaves their colours. Fails with `TooManyStates` if there are more than 32 in all.
-    pub fn colour(&mut self) -> Found<()> {
+    pub fn colour(&mut self) -> Attempt<()> {
         let mut colours = 0u32;
         for leaf in self.leaves.iter_mut() {
             colours = leaf.colour(colours);

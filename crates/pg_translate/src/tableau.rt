@@ -1,37 +1,37 @@
 //! The tableau of a formula: sets of formulas. A word satisfies a set if choices lead it from set to set and no Until is put off for ever.
 
-use crate::fault::{Found, TranslateFault};
-use crate::lists::Lists;
-use crate::numbers::{NONE, Notes, at, count};
-use crate::pool::{FALSE, Operator, Pool, Reach, TRUE};
+use crate::fault::{Attempt, TranslateFault};
+use crate::lists::NumberedLists;
+use crate::numbers::{NONE, NumberMap, at, count};
+use crate::pool::{FALSE, Followed, FormulaPool, Operator, TRUE};
 use std::alloc::Global;
 
 /// The formulas that are asked from the next step on, and the Untils that are put off, as bits.
 #[derive(Clone, Copy, PartialEq, Eq)]
-pub struct Choice {
+pub struct ChoiceBits {
     pub asks: u64,
     pub puts: u64,
 }
 
-impl Choice {
-    pub const FREE: Choice = Choice { asks: 0, puts: 0 };
+impl ChoiceBits {
+    pub const FREE: ChoiceBits = ChoiceBits { asks: 0, puts: 0 };
 
-    fn with(self, other: Choice) -> Choice {
-        Choice {
+    fn with(self, other: ChoiceBits) -> ChoiceBits {
+        ChoiceBits {
             asks: self.asks | other.asks,
             puts: self.puts | other.puts,
         }
     }
 
     /// Whether this choice asks for no more, and puts off no more, than another one.
-    fn is_within(self, other: Choice) -> bool {
+    fn is_within(self, other: ChoiceBits) -> bool {
         self.asks & !other.asks == 0 && self.puts & !other.puts == 0
     }
 }
 
 /// Leaves out each choice that asks for at least as much as another one.
-fn pruned(alloc: Global, choices: &[Choice]) -> Found<Vec<Choice>> {
-    let mut kept: Vec<Choice> = Vec::new(alloc);
+fn pruned(alloc: Global, choices: &[ChoiceBits]) -> Attempt<Vec<ChoiceBits>> {
+    let mut kept: Vec<ChoiceBits> = Vec::new(alloc);
     for choice in choices {
         if !kept.iter().any(|other| other.is_within(*choice)) {
             kept.retain(|other| !choice.is_within(*other));
@@ -42,7 +42,7 @@ fn pruned(alloc: Global, choices: &[Choice]) -> Found<Vec<Choice>> {
 }
 
 /// Returns the choices that combine one of each list.
-fn together(alloc: Global, one: &[Choice], two: &[Choice]) -> Found<Vec<Choice>> {
+fn together(alloc: Global, one: &[ChoiceBits], two: &[ChoiceBits]) -> Attempt<Vec<ChoiceBits>> {
     let mut all = Vec::new(alloc);
     for choice in one {
         for other in two {
@@ -53,7 +53,7 @@ fn together(alloc: Global, one: &[Choice], two: &[Choice]) -> Found<Vec<Choice>>
 }
 
 /// Returns the choices of both lists.
-fn either(alloc: Global, one: &[Choice], two: &[Choice]) -> Found<Vec<Choice>> {
+fn either(alloc: Global, one: &[ChoiceBits], two: &[ChoiceBits]) -> Attempt<Vec<ChoiceBits>> {
     let mut all = Vec::from_slice(alloc, one)?;
     all.extend_from_slice(two)?;
     pruned(alloc, &all)
@@ -62,27 +62,27 @@ fn either(alloc: Global, one: &[Choice], two: &[Choice]) -> Found<Vec<Choice>> {
 /// The tableau. Each formula that is asked has a place among the bits.
 #[derive(Drop)]
 pub struct Tableau<'a> {
-    pool: &'a Pool,
+    pool: &'a FormulaPool,
     formulas: Vec<u32>,
-    places: Notes,
+    places: NumberMap,
     /// The places with letters whose choices are known; `choices` has these.
-    known: Lists,
-    choices: Vec<Vec<Choice>>,
+    known: NumberedLists,
+    choices: Vec<Vec<ChoiceBits>>,
 }
 
 impl<'a> Tableau<'a> {
-    pub fn new(pool: &'a Pool) -> Tableau<'a> {
+    pub fn new(pool: &'a FormulaPool) -> Tableau<'a> {
         Tableau {
             pool,
             formulas: Vec::new(pool.alloc),
-            places: Notes::new(pool.alloc),
-            known: Lists::new(pool.alloc),
+            places: NumberMap::new(pool.alloc),
+            known: NumberedLists::new(pool.alloc),
             choices: Vec::new(pool.alloc),
         }
     }
 
     /// Returns the bit of a formula that is asked. Fails with `TooManyStates` if it is new and 64 others have one.
-    fn bit(&mut self, f: u32) -> Found<u64> {
+    fn bit(&mut self, f: u32) -> Attempt<u64> {
         if self.places.get(f) == NONE {
             if self.formulas.len() >= 64 {
                 return Err(TranslateFault::TooManyStates);
@@ -94,7 +94,7 @@ impl<'a> Tableau<'a> {
     }
 
     /// Returns a formula as the set of the formulas that are asked, or `None` if it is false.
-    pub fn asked(&mut self, f: u32) -> Found<Option<u64>> {
+    pub fn asked(&mut self, f: u32) -> Attempt<Option<u64>> {
         match f {
             FALSE => return Ok(None),
             TRUE => return Ok(Some(0)),
@@ -111,8 +111,8 @@ impl<'a> Tableau<'a> {
     }
 
     /// Returns the choices of a set at a letter.
-    pub fn choices(&mut self, set: u64, letter: u32) -> Found<Vec<Choice>> {
-        let mut all = vec![in self.pool.alloc; Choice::FREE; 1]?;
+    pub fn choices(&mut self, set: u64, letter: u32) -> Attempt<Vec<ChoiceBits>> {
+        let mut all = vec![in self.pool.alloc; ChoiceBits::FREE; 1]?;
         for place in 0..count(self.formulas.len()) {
             if set.wrapping_shr(place) & 1 == 1 {
                 let number = self.choices_of_place(place, letter)?;
@@ -125,7 +125,7 @@ impl<'a> Tableau<'a> {
     }
 
     /// Returns the number of the list of a formula's choices at a letter.
-    fn choices_of_place(&mut self, place: u32, letter: u32) -> Found<u32> {
+    fn choices_of_place(&mut self, place: u32, letter: u32) -> Attempt<u32> {
         let f = at(&self.formulas, place);
         let number = self
             .known
@@ -138,10 +138,10 @@ impl<'a> Tableau<'a> {
     }
 
     /// Returns the choices of a formula, from those of its parts.
-    fn expanded(&mut self, f: u32, letter: u32) -> Found<Vec<Choice>> {
-        let mut places = Notes::new(self.pool.alloc);
-        let mut found: Vec<Vec<Choice>> = Vec::new(self.pool.alloc);
-        for part in &self.pool.parts(f, Reach::Now)? {
+    fn expanded(&mut self, f: u32, letter: u32) -> Attempt<Vec<ChoiceBits>> {
+        let mut places = NumberMap::new(self.pool.alloc);
+        let mut found: Vec<Vec<ChoiceBits>> = Vec::new(self.pool.alloc);
+        for part in &self.pool.parts(f, Followed::Now)? {
             let choices = self.expanded_part(*part, letter, &places, &found)?;
             places.set(*part, count(found.len()))?;
             found.push(choices)?;
@@ -153,17 +153,17 @@ impl<'a> Tableau<'a> {
         &mut self,
         f: u32,
         letter: u32,
-        places: &Notes,
-        found: &[Vec<Choice>],
-    ) -> Found<Vec<Choice>> {
+        places: &NumberMap,
+        found: &[Vec<ChoiceBits>],
+    ) -> Attempt<Vec<ChoiceBits>> {
         let alloc = self.pool.alloc;
-        let of = |g: u32| -> &[Choice] {
+        let of = |g: u32| -> &[ChoiceBits] {
             match found.get(places.get(g) as usize) {
                 Some(choices) => choices.as_slice(),
                 None => &[],
             }
         };
-        let free = [Choice::FREE];
+        let free = [ChoiceBits::FREE];
         match (self.pool.operator(f), self.pool.operands(f)) {
             (Operator::True, _) => Ok(Vec::from_slice(alloc, &free)?),
             (Operator::Literal(p, value), _) => {
@@ -185,12 +185,12 @@ impl<'a> Tableau<'a> {
                 Ok(all)
             }
             (Operator::Next, [g]) => match self.asked(*g)? {
-                Some(asks) => Ok(Vec::from_slice(alloc, &[Choice { asks, puts: 0 }])?),
+                Some(asks) => Ok(Vec::from_slice(alloc, &[ChoiceBits { asks, puts: 0 }])?),
                 None => Ok(Vec::new(alloc)),
             },
             (Operator::Until, [g, h]) => {
                 let here = self.bit(f)?;
-                let later = [Choice {
+                let later = [ChoiceBits {
                     asks: here,
                     puts: here,
                 }];
@@ -198,7 +198,7 @@ impl<'a> Tableau<'a> {
             }
             (Operator::Release, [g, h]) => {
                 let here = self.bit(f)?;
-                let later = [Choice {
+                let later = [ChoiceBits {
                     asks: here,
                     puts: 0,
                 }];

@@ -1,8 +1,8 @@
 //! Automata as text in HOA v1.
 
-use crate::automaton::{Automaton, Edge};
-use crate::fault::Found;
-use crate::lists::Lists;
+use crate::automaton::{MarkedAutomaton, MarkedEdge};
+use crate::fault::Attempt;
+use crate::lists::NumberedLists;
 use crate::numbers::{NONE, between, count, has_bit, item, power};
 use std::alloc::Global;
 
@@ -29,18 +29,18 @@ struct Writer {
 }
 
 impl Writer {
-    fn word(&mut self, word: &[u8]) -> Found<()> {
+    fn word(&mut self, word: &[u8]) -> Attempt<()> {
         self.text.extend_from_slice(word)?;
         Ok(())
     }
 
-    fn number(&mut self, number: u32) -> Found<()> {
+    fn number(&mut self, number: u32) -> Attempt<()> {
         let digits = format!(in self.alloc; "{number}")?;
         self.word(digits.as_bytes())
     }
 
     /// Writes a name in quotes, with quotes and backslashes escaped.
-    fn quoted(&mut self, name: &[u8]) -> Found<()> {
+    fn quoted(&mut self, name: &[u8]) -> Attempt<()> {
         self.word(b"\"")?;
         for byte in name {
             if *byte == b'"' || *byte == b'\\' {
@@ -52,7 +52,7 @@ impl Writer {
     }
 
     /// Writes the condition that the greatest set that recurs is even.
-    fn condition(&mut self, sets: u32) -> Found<()> {
+    fn condition(&mut self, sets: u32) -> Attempt<()> {
         for set in (1..sets).rev() {
             self.word(if set % 2 == 0 { b"Inf(" } else { b"Fin(" })?;
             self.number(set)?;
@@ -65,7 +65,7 @@ impl Writer {
         Ok(())
     }
 
-    fn head(&mut self, states: u32, names: &[Vec<u8>], sets: u32) -> Found<()> {
+    fn head(&mut self, states: u32, names: &[Vec<u8>], sets: u32) -> Attempt<()> {
         self.word(b"HOA: v1\nStates: ")?;
         self.number(states)?;
         self.word(b"\nStart: 0\nAP: ")?;
@@ -85,7 +85,7 @@ impl Writer {
         )
     }
 
-    fn cube(&mut self, cube: Cube) -> Found<()> {
+    fn cube(&mut self, cube: Cube) -> Attempt<()> {
         if cube.said == 0 {
             return self.word(b"t");
         }
@@ -107,7 +107,7 @@ impl Writer {
     }
 
     /// Writes an edge, labelled with the cubes that have its number.
-    fn edge(&mut self, cubes: &[(u32, Cube)], number: u32, edge: &[u32]) -> Found<()> {
+    fn edge(&mut self, cubes: &[(u32, Cube)], number: u32, edge: &[u32]) -> Attempt<()> {
         let mut is_first = true;
         for (other, cube) in cubes {
             if *other == number {
@@ -130,10 +130,10 @@ impl Writer {
 /// Returns the cubes of the edges of a state, with the numbers of these edges. The edges are given letter by letter.
 fn cubes(
     alloc: Global,
-    row: &[Edge],
+    row: &[MarkedEdge],
     propositions: u32,
-    edges: &mut Lists,
-) -> Found<Vec<(u32, Cube)>> {
+    edges: &mut NumberedLists,
+) -> Attempt<Vec<(u32, Cube)>> {
     let mut found = Vec::new(alloc);
     let whole = Part {
         cube: Cube {
@@ -149,7 +149,7 @@ fn cubes(
             break;
         };
         let end = part.from.saturating_add(power(part.propositions));
-        let first = item(row, part.from, Edge::NONE);
+        let first = item(row, part.from, MarkedEdge::NONE);
         if part.propositions == 0
             || between(row, part.from, end)
                 .iter()
@@ -176,7 +176,7 @@ fn cubes(
 }
 
 /// Returns the text of an automaton. A state that leads only to itself and rejects is left out, if it isn't the first one.
-pub fn text_of(automaton: &Automaton, names: &[Vec<u8>]) -> Found<Vec<u8>> {
+pub fn text_of(automaton: &MarkedAutomaton, names: &[Vec<u8>]) -> Attempt<Vec<u8>> {
     let alloc = automaton.alloc;
     let mut sink = NONE;
     for state in 1..automaton.len() {
@@ -208,11 +208,11 @@ fn number_in_text(state: u32, sink: u32) -> u32 {
 /// Writes a state and its edges, except those to the state that is left out.
 fn write_state(
     writer: &mut Writer,
-    automaton: &Automaton,
+    automaton: &MarkedAutomaton,
     state: u32,
     sink: u32,
     propositions: u32,
-) -> Found<()> {
+) -> Attempt<()> {
     let alloc = automaton.alloc;
     writer.word(b"State: ")?;
     writer.number(number_in_text(state, sink))?;
@@ -221,7 +221,7 @@ fn write_state(
     for letter in 0..automaton.classes.letters() {
         row.push(automaton.step(state, letter))?;
     }
-    let mut edges = Lists::new(alloc);
+    let mut edges = NumberedLists::new(alloc);
     let cubes = cubes(alloc, &row, propositions, &mut edges)?;
     for number in 0..edges.len() {
         let [target, priority] = *edges.list(number) else {

@@ -2,7 +2,7 @@
 //! such a tree.
 
 use crate::bdd::ALWAYS;
-use crate::fault::{Found, TranslateFault};
+use crate::fault::{Attempt, TranslateFault};
 use crate::numbers::{NONE, at, count, power, spend};
 use crate::skeleton::Skeleton;
 use std::alloc::Global;
@@ -76,7 +76,7 @@ fn alternatives(
     set: u32,
     fixed: u32,
     steps: &mut u64,
-) -> Found<Vec<u32>> {
+) -> Attempt<Vec<u32>> {
     let value = condition.accepts(set);
     let mut found: Vec<u32> = Vec::new(alloc);
     let mut layer = vec![in alloc; set; 1]?;
@@ -107,7 +107,7 @@ fn alternatives(
 
 impl Tree {
     /// Returns the tree of a condition over colours. The fixed ones of these are met on each cycle.
-    pub fn new(alloc: Global, condition: &Condition, colours: u32, fixed: u32) -> Found<Tree> {
+    pub fn new(alloc: Global, condition: &Condition, colours: u32, fixed: u32) -> Attempt<Tree> {
         let mut nodes: Vec<Node> = Vec::new(alloc);
         nodes.push(Node {
             colours,

@@ -15,8 +15,8 @@ use Rattle.pg_verify.specs.Mirrors.Products.{IsProductOf}
 use Rattle.pg_verify.specs.Mirrors.Lassos.{AcceptsEach, IsRefuted, IsDeadEnd}
 use Rattle.pg_verify.specs.Verdicts.{IsCorrect, IsStuck, IsRejected, Says, lasso}
 use Rattle.pg_verify.specs.Mirrors.Walks.{Shows}
-use Rattle.pg_verify.specs.declared.verdict.Verdict.{Verdict}
-use Rattle.pg_verify.specs.declared.verdict.Verdict.TheVariants.{Accepted, Rejected, Stuck}
+use Rattle.pg_verify.specs.declared.verdict.CircuitVerdict.{CircuitVerdict}
+use Rattle.pg_verify.specs.declared.verdict.CircuitVerdict.TheVariants.{Accepted, Rejected, Stuck}
 use Rattle.pg_hoa_automaton.specs.Words.{state_after}
 use Rattle.pg_synth.specs.AutomatonGames.{input_letters}
 use Rattle.pg_synth.specs.Machines.{IsInputWord}
@@ -92,7 +92,7 @@ stuck a circuit p letters_of num many is h = record {
 }
 
 -- what a product shows is so of the circuit
-pub shown : (a : Automaton) (circuit : Circuit) (p : Automaton) (condition : Formula) (verdict : Verdict) → Shows p verdict → IsAcyclic circuit
+pub shown : (a : Automaton) (circuit : Circuit) (p : Automaton) (condition : Formula) (verdict : CircuitVerdict) → Shows p verdict → IsAcyclic circuit
     → length circuit.inputs ≡ inputs a.controllable → FitsShape condition a.sets a.shape → IsProductOf a circuit p → Says a condition circuit verdict
 shown a circuit p condition Accepted h num many fits is = absurd h
 shown a circuit p condition (Stuck word) h num many fits is = stuck a circuit p word.items num many is h

@@ -17,7 +17,7 @@ use Rattle.std.proofs.lemmas.List.Elements.{Contains-get_or}
 use Rattle.pg_aiger.specs.Runs.{Valuation, IsWordOf, letter_of, number_of}
 use Rattle.pg_aiger.proofs.Numbers.{number_same}
 use Rattle.pg_aiger_netlist.proofs.Runs.{has_one, used_output, defined_input}
-use Rattle.pg_verify.specs.declared.verdict.Verdict.TheVariants.{Accepted, Rejected, Stuck}
+use Rattle.pg_verify.specs.declared.verdict.CircuitVerdict.TheVariants.{Accepted, Rejected, Stuck}
 use Rattle.pg_verify.specs.Laws.{VerdictsDecide}
 use Rattle.pg_verify.specs.Verdicts.{IsCorrect, IsStuck, IsRejected, lasso}
 use Rattle.pg_verify.proofs.Correct.{lasso_in}

@@ -36,8 +36,8 @@ use Rattle.pg_verify.specs.Verdicts.{lasso}
 use Rattle.pg_verify.specs.Mirrors.Lassos.{after, IsDeadEnd, IsRefuted}
 use Rattle.pg_verify.specs.Mirrors.Products.{HasWholeLetters}
 use Rattle.pg_verify.specs.Mirrors.Walks.{IsChosen, Goes, IsLasso, IsWalk, Shows, nth}
-use Rattle.pg_verify.specs.declared.verdict.Verdict.{Verdict}
-use Rattle.pg_verify.specs.declared.verdict.Verdict.TheVariants.{Accepted, Rejected, Stuck}
+use Rattle.pg_verify.specs.declared.verdict.CircuitVerdict.{CircuitVerdict}
+use Rattle.pg_verify.specs.declared.verdict.CircuitVerdict.TheVariants.{Accepted, Rejected, Stuck}
 use Rattle.pg_verify.proofs.Periodic.{after_more}
 
 -- ---- places of a list that is gone through over and over from a place on
@@ -465,7 +465,7 @@ few_visited p game initial solution visited word state vertex walk distinct =
     let few = few_numbers visited (length game) distinct (walk_below p game initial solution visited word state vertex walk) in
     let l = walk.long in omega arith
 
-pub lasso_shows : (p : Automaton) (word : List ℕ) (place : ℕ) (verdict : Verdict) → IsRefuted p (take place word) (drop place word)
+pub lasso_shows : (p : Automaton) (word : List ℕ) (place : ℕ) (verdict : CircuitVerdict) → IsRefuted p (take place word) (drop place word)
     → IsLasso word place verdict → Shows p verdict
 lasso_shows p word place Accepted h is = is
 lasso_shows p word place (Stuck letters_of) h is = absurd is

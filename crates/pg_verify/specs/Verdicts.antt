@@ -8,8 +8,8 @@ use Rattle.pg_synth.specs.Machines.{IsInputWord}
 use Rattle.pg_aiger.specs.Circuits.{Circuit}
 use Rattle.pg_aiger.specs.Runs.{IsWordOf}
 use Rattle.pg_aiger_netlist.specs.Netlists.{HasOneRun}
-use Rattle.pg_verify.specs.declared.verdict.Verdict.{Verdict}
-use Rattle.pg_verify.specs.declared.verdict.Verdict.TheVariants.{Accepted, Rejected, Stuck}
+use Rattle.pg_verify.specs.declared.verdict.CircuitVerdict.{CircuitVerdict}
+use Rattle.pg_verify.specs.declared.verdict.CircuitVerdict.TheVariants.{Accepted, Rejected, Stuck}
 
 -- the circuit has one run on the input word, and the automaton accepts the word that the run makes
 abbrev pub AcceptsOn : Automaton → Formula → Circuit → (ℕ → ℕ) → Type 0
@@ -39,11 +39,11 @@ pub record IsRejected (a : Automaton) (condition : Formula) (circuit : Circuit) 
   pub rejects : (word : ℕ → ℕ) → IsWordOf circuit a.controllable (lasso stem loop) word → ¬ IsAccepted a condition word
 
 -- the verdict is right, under a condition of the automaton's shape
-abbrev pub Says : Automaton → Formula → Circuit → Verdict → Type 0
+abbrev pub Says : Automaton → Formula → Circuit → CircuitVerdict → Type 0
 Says a condition circuit Accepted = IsCorrect a condition circuit
 Says a condition circuit (Stuck letters) = IsStuck a circuit letters.items
 Says a condition circuit (Rejected stem loop) = IsRejected a condition circuit stem.items loop.items
 
-abbrev pub IsAcceptance : Verdict → Type 0
+abbrev pub IsAcceptance : CircuitVerdict → Type 0
 IsAcceptance Accepted = Unit {0}
 IsAcceptance verdict = ⊥

@@ -23,7 +23,7 @@ use std::alloc::{AllocError, Global};
 /// Whether the automaton accepts the circuit's run for every endless input word, and if it doesn't, an input word as
 /// evidence.
 #[derive(Debug, Drop)]
-pub enum Verdict {
+pub enum CircuitVerdict {
     /// The automaton accepts every run.
     Accepted,
     /// The automaton has no edge for the letter that the circuit makes of the last of these input letters.
@@ -39,7 +39,7 @@ pub fn verdict_of(
     product: &Automaton,
     synth: &SynthGame,
     solution: &Solution,
-) -> Result<Verdict, AllocError>
+) -> Result<CircuitVerdict, AllocError>
     requires game { IsSynthGame product.now synth.now.game synth.now.initial }
     requires solution { IsSolution synth.now.game solution.now }
     requires sound { IsSound synth.now.game solution.now }
@@ -51,7 +51,7 @@ pub fn verdict_of(
     // called only for what its contract says about the automaton
     let _states = product.states();
     match solution.winner(synth.initial) {
-        Player::Even => Ok(Verdict::Accepted),
+        Player::Even => Ok(CircuitVerdict::Accepted),
         Player::Odd => refutation(alloc, product, synth, solution),
     }
 }

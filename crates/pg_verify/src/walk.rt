@@ -12,7 +12,7 @@ ghost use Rattle.pg_synth.specs.declared.place.Place.TheVariants.{Answer, Arriva
 ghost use Rattle.pg_verify.specs.Products.{HasWholeLetters};
 ghost use Rattle.pg_verify.specs.Mirrors.Walks.{IsChosen, IsLasso, Shows};
 
-use crate::verdict::Verdict;
+use crate::verdict::CircuitVerdict;
 use indexmap::IndexSet;
 use pg_arena::{Game, Vertex};
 use pg_hoa_automaton::Automaton;
@@ -82,14 +82,14 @@ fn starting(alloc: Global, number: u32) -> Result<IndexSet<u32>, AllocError>
 }
 
 /// Returns the verdict that rejects the lasso of the word: its letters before `place` are the stem, and the others the cycle.
-fn lasso_of(alloc: Global, word: &[u32], place: usize) -> Result<Verdict, AllocError>
+fn lasso_of(alloc: Global, word: &[u32], place: usize) -> Result<CircuitVerdict, AllocError>
     requires { place ≤ length word.now }
     ensures { IfOk result (IsLasso word.now place) }
 {
     let (front, back) = word.split_at(place);
     let stem = Vec::from_slice(alloc, front)?;
     let cycle = Vec::from_slice(alloc, back)?;
-    Ok(Verdict::Rejected(stem, cycle))
+    Ok(CircuitVerdict::Rejected(stem, cycle))
 }
 
 /// Returns the word of Odd's choices as a verdict: the word reaches a letter without a step, or a vertex for the second time.
@@ -98,7 +98,7 @@ pub(crate) fn refutation(
     product: &Automaton,
     synth: &SynthGame,
     solution: &Solution,
-) -> Result<Verdict, AllocError>
+) -> Result<CircuitVerdict, AllocError>
     requires automaton { IsAutomaton product.now }
     requires whole { HasWholeLetters product.now }
     requires game { IsSynthGame product.now synth.now.game synth.now.initial }
@@ -115,7 +115,7 @@ pub(crate) fn refutation(
         let (letter, next) = chosen_step(product, synth, solution, state, vertex);
         word.push(letter)?;
         let Some((target, _)) = product.next(state, letter) else {
-            return Ok(Verdict::Stuck(word));
+            return Ok(CircuitVerdict::Stuck(word));
         };
         let (place, _) = visited.insert_full(number_of(next))?;
         if place < word.len() {

@@ -9,8 +9,8 @@ use Rattle.pg_aiger.specs.Runs.{IsWordOf}
 use Rattle.pg_aiger_netlist.specs.Netlists.{HasOneRun}
 use Rattle.pg_verify.specs.Verdicts.{lasso}
 use Rattle.pg_verify_environment.specs.Counterparts.{exchanged}
-use Rattle.pg_verify_environment.specs.declared.outcome.Outcome.{Outcome}
-use Rattle.pg_verify_environment.specs.declared.outcome.Outcome.TheVariants.{Refutes, Answered}
+use Rattle.pg_verify_environment.specs.declared.outcome.EnvironmentVerdict.{EnvironmentVerdict}
+use Rattle.pg_verify_environment.specs.declared.outcome.EnvironmentVerdict.TheVariants.{Refutes, Answered}
 
 -- the circuit has one run on the controller's letters, and the automaton doesn't accept the word that the run makes
 abbrev pub RefutesOn : Automaton → Formula → Circuit → (ℕ → ℕ) → Type 0
@@ -31,6 +31,6 @@ pub record IsAnswered (a : Automaton) (condition : Formula) (circuit : Circuit) 
   pub accepts : (word : ℕ → ℕ) → IsWordOf circuit (exchanged a.controllable) (lasso stem loop) word → IsAccepted a condition word
 
 -- the outcome is right, under a condition of the automaton's shape
-abbrev pub Says : Automaton → Formula → Circuit → Outcome → Type 0
+abbrev pub Says : Automaton → Formula → Circuit → EnvironmentVerdict → Type 0
 Says a condition circuit Refutes = IsRefutation a condition circuit
 Says a condition circuit (Answered stem loop) = IsAnswered a condition circuit stem.items loop.items

@@ -7,4 +7,4 @@ pub mod laws;
 mod outcome;
 
 pub use exchanging::counterpart;
-pub use outcome::{Outcome, outcome_of};
+pub use outcome::{EnvironmentVerdict, outcome_of};

@@ -10,12 +10,12 @@ ghost use Rattle.pg_verify.specs.Verdicts as verdicts;
 ghost use Rattle.pg_verify_environment.specs.Counterparts.{IsCounterpart};
 ghost use Rattle.pg_verify_environment.specs.Environments.{Says};
 
-use pg_verify::Verdict;
+use pg_verify::CircuitVerdict;
 
 /// Whether the automaton refuses the circuit's run on every endless word of the controller's letters, and if not, such a word on which it
 /// accepts the run.
 #[derive(Debug, Drop)]
-pub enum Outcome {
+pub enum EnvironmentVerdict {
     /// The automaton refuses every run.
     Refutes,
     /// The automaton accepts the run on the first of these letters of the controller, followed by the second ones repeated for ever.
@@ -23,15 +23,15 @@ pub enum Outcome {
 }
 
 /// Returns the outcome for a circuit and an automaton, from the verdict on the circuit and the automaton's counterpart.
-pub fn outcome_of(verdict: Verdict) -> Outcome
+pub fn outcome_of(verdict: CircuitVerdict) -> EnvironmentVerdict
     ensures { (a c : Automaton) (condition : Formula) (circuit : Circuit) → IsAutomaton a → IsCounterpart a c → IsAcyclic circuit
         → FitsShape condition a.sets a.shape
         → ((other : Formula) → FitsShape other c.sets c.shape → verdicts.Says c other circuit verdict) → Says a condition circuit result }
 {
     match verdict {
-        Verdict::Accepted => Outcome::Refutes,
-        Verdict::Rejected(stem, round) => Outcome::Answered(stem, round),
+        CircuitVerdict::Accepted => EnvironmentVerdict::Refutes,
+        CircuitVerdict::Rejected(stem, round) => EnvironmentVerdict::Answered(stem, round),
         // this never happens: a counterpart has a step for each letter
-        Verdict::Stuck(_) => Outcome::Refutes,
+        CircuitVerdict::Stuck(_) => EnvironmentVerdict::Refutes,
     }
 }

@@ -4,8 +4,8 @@ use Rattle.pg_hoa.specs.declared.fault.HoaFault.{HoaFault}
 use Rattle.pg_hoa.specs.declared.fault.HoaFault.TheVariants as faults
 use Rattle.pg_hoa_syntax.specs.declared.fault.PartFault.{PartFault}
 use Rattle.pg_hoa_syntax.specs.declared.fault.PartFault.TheVariants.{Syntax, LeftOut, UnknownHeader, OutOfRange, NotParity, TooLarge, BadName}
-use Rattle.pg_hoa_syntax.specs.declared.fault.Refusal.{Refusal}
-use Rattle.pg_hoa_syntax.specs.declared.fault.Refusal.TheVariants as refusals
+use Rattle.pg_hoa_syntax.specs.declared.fault.PartRefusal.{PartRefusal}
+use Rattle.pg_hoa_syntax.specs.declared.fault.PartRefusal.TheVariants as refusals
 use Rattle.pg_hoa.specs.declared.fault.Conflict.{Conflict}
 use Rattle.pg_hoa.specs.declared.fault.Conflict.TheVariants.{Memory, NotDeterministic}
 
@@ -20,7 +20,7 @@ in_text len NotParity = faults.NotParity
 in_text len TooLarge = faults.TooLarge
 in_text len (BadName proposition) = faults.BadName proposition
 
-abbrev pub refusal_in_text : ℕ → Refusal → HoaFault
+abbrev pub refusal_in_text : ℕ → PartRefusal → HoaFault
 refusal_in_text len refusals.Memory = faults.OutOfMemory
 refusal_in_text len (refusals.Wrong fault) = in_text len fault
 

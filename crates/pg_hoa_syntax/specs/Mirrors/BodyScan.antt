@@ -7,7 +7,7 @@ use Rattle.pg_list_lemmas.specs.Rising.{rising}
 use Rattle.pg_hoa_syntax.specs.Lexemes.{Lexeme, number, header, string, end, left_bracket, right_bracket, left_brace, right_brace, ampersand}
 use Rattle.pg_hoa_syntax.specs.Mirrors.Scan.{first}
 use Rattle.pg_hoa_automaton.specs.Mirrors.Steps.{◌>>=◌}
-use Rattle.pg_hoa_syntax.specs.declared.formula.Kind.TheVariants.{Label}
+use Rattle.pg_hoa_syntax.specs.declared.formula.FormulaKind.TheVariants.{Label}
 use Rattle.pg_hoa_syntax.specs.Mirrors.FormulaRun.{ops_at}
 use Rattle.pg_hoa_syntax.specs.Mirrors.Kept.{KeptEdge, KeptLine, kept_edges, greatest_of}
 

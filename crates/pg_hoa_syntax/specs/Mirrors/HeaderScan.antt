@@ -3,7 +3,7 @@ use Rattle.std.specs.Prelude.{ℕ, suc, zero, Bool, true, false, ◌&&◌, ◌||
 use Rattle.std.specs.Prelude.{codes, get_or, min, nat_lt, nat_le, if◌then◌else◌}
 use Rattle.std.specs.Str.{bytes_eq}
 use Rattle.std.specs.List.{list_all, list_any}
-use Rattle.pg_hoa_syntax.specs.declared.formula.Kind.TheVariants.{Condition}
+use Rattle.pg_hoa_syntax.specs.declared.formula.FormulaKind.TheVariants.{Condition}
 use Rattle.pg_hoa_syntax.specs.Lexemes.{Lexeme, number, identifier, header, string, body, ampersand, stray}
 use Rattle.pg_hoa_automaton.specs.Mirrors.Steps.{◌>>=◌}
 use Rattle.pg_hoa_syntax.specs.Mirrors.Scan.{first}

@@ -3,7 +3,7 @@ use Rattle.std.specs.Prelude.{ℕ, suc, max, Bool, true, false, List, [], ◌∷
 use Rattle.std.specs.List.{fold, filter}
 use Rattle.pg_hoa_syntax.specs.declared.formula.Op.{Op}
 use Rattle.pg_hoa_syntax.specs.declared.formula.Op.TheVariants.{No}
-use Rattle.pg_hoa_syntax.specs.declared.body.Edge as read_edge
+use Rattle.pg_hoa_syntax.specs.declared.body.ReadEdge as read_edge
 use Rattle.pg_hoa_syntax.specs.declared.body.ReadState as read_line
 use Rattle.pg_hoa_syntax.specs.declared.header.Head as read_head
 use Rattle.pg_hoa_syntax.specs.Mirrors.FormulaRun.{postfix}
@@ -22,7 +22,7 @@ pub record KeptLine : Type 0 where
   pub sets : List ℕ
   pub edges : List KeptEdge
 
-abbrev pub edge_in : read_edge.Edge → KeptEdge
+abbrev pub edge_in : read_edge.ReadEdge → KeptEdge
 edge_in e = record { label = e.label.items; target = e.target; sets = e.sets.items }
 
 abbrev pub line_in : read_line.ReadState → KeptLine

@@ -4,8 +4,8 @@ use Rattle.std.specs.List.{All, list_any, range_with_len}
 use Rattle.pg_hoa_syntax.specs.declared.formula.Op.{Op}
 use Rattle.pg_hoa_automaton.specs.declared.shape.Shape.{Shape}
 use Rattle.pg_hoa_syntax.specs.declared.preamble.Preamble as rust
-use Rattle.pg_hoa_syntax.specs.declared.fault.Refusal.{Refusal}
-use Rattle.pg_hoa_syntax.specs.declared.fault.Refusal.TheVariants.{Memory, Wrong}
+use Rattle.pg_hoa_syntax.specs.declared.fault.PartRefusal.{PartRefusal}
+use Rattle.pg_hoa_syntax.specs.declared.fault.PartRefusal.TheVariants.{Memory, Wrong}
 use Rattle.pg_hoa_syntax.specs.Lexemes.{Lexeme}
 use Rattle.pg_hoa_syntax.specs.Mirrors.FormulaRun.{postfix}
 use Rattle.pg_hoa_automaton.specs.Formulas.{Formula}
@@ -61,7 +61,7 @@ HasCondition None = Unit {0}
 HasCondition (Some x) = (f : Formula) × (x.1 ≡ postfix f)
 
 -- only running out of memory refuses a head that has a preamble
-abbrev pub HasNoPreamble : KeptHead → Refusal → Type 0
+abbrev pub HasNoPreamble : KeptHead → PartRefusal → Type 0
 HasNoPreamble h Memory = Unit {0}
 HasNoPreamble h (Wrong fault) = (s : Preamble) → IsPreambleOf h s → ⊥
 

@@ -2,8 +2,8 @@
 use Rattle.std.specs.Prelude.{◌≡◌, ℕ, ◌*◌, ◌^◌, ◌≤◌, Bool, List, [], length, map, Option, Some, None}
 use Rattle.pg_hoa_automaton.specs.declared.shape.Shape.{Shape}
 use Rattle.pg_hoa_automaton.specs.Automata.{Automaton}
-use Rattle.pg_hoa_syntax.specs.declared.fault.Refusal.{Refusal}
-use Rattle.pg_hoa_syntax.specs.declared.fault.Refusal.TheVariants.{Memory, Wrong}
+use Rattle.pg_hoa_syntax.specs.declared.fault.PartRefusal.{PartRefusal}
+use Rattle.pg_hoa_syntax.specs.declared.fault.PartRefusal.TheVariants.{Memory, Wrong}
 use Rattle.pg_hoa_syntax.specs.declared.syntax.Syntax.{Syntax}
 use Rattle.pg_hoa_syntax.specs.Lexemes.{Lexeme}
 use Rattle.pg_hoa_syntax.specs.Syntax.{Written, IsText, Says, SaysNone}
@@ -25,7 +25,7 @@ pub record Reads (tokens : List Lexeme) (h : KeptHead) (s : Preamble) (lines : L
   pub body : body_at (bound s.states) (length s.names) s.sets behind ≡ Some (lines, [])
 
 -- only running out of memory refuses tokens that can be read
-abbrev pub NeverReads : List Lexeme → Refusal → Type 0
+abbrev pub NeverReads : List Lexeme → PartRefusal → Type 0
 NeverReads tokens Memory = Unit {0}
 NeverReads tokens (Wrong fault) = (h : KeptHead) (s : Preamble) (lines : List KeptLine) → Reads tokens h s lines → ⊥
 
@@ -72,6 +72,6 @@ abbrev pub IsSyntaxOf : List ℕ → Syntax → Type 0
 IsSyntaxOf bytes s = Declares bytes (automaton s) (map line_in s.lines.items)
 
 -- only running out of memory refuses bytes that say an automaton
-abbrev pub SaysNothing : List ℕ → Refusal → Type 0
+abbrev pub SaysNothing : List ℕ → PartRefusal → Type 0
 SaysNothing bytes Memory = Unit {0}
 SaysNothing bytes (Wrong fault) = SaysNone bytes

@@ -3,8 +3,8 @@ use Rattle.std.specs.Prelude.{ℕ, suc, zero, ◌+◌, ◌-◌, ◌^◌, ◌==�
 use Rattle.std.specs.Prelude.{if◌then◌else◌, codes}
 use Rattle.std.specs.Str.{bytes_eq}
 use Rattle.std.specs.List.{prefix_len, take_while}
-use Rattle.pg_hoa_syntax.specs.declared.token.Token.{Token}
-use Rattle.pg_hoa_syntax.specs.declared.token.Token.TheVariants as tokens
+use Rattle.pg_hoa_syntax.specs.declared.token.HoaToken.{HoaToken}
+use Rattle.pg_hoa_syntax.specs.declared.token.HoaToken.TheVariants as tokens
 use Rattle.pg_hoa_automaton.specs.Mirrors.Steps.{◌>>=◌}
 use Rattle.pg_hoa_syntax.specs.Lexemes.{Lexeme, number, identifier, header, string, alias, body, end, abort, left_bracket, right_bracket}
 use Rattle.pg_hoa_syntax.specs.Lexemes.{left_brace, right_brace, left_paren, right_paren, bang, ampersand, bar, stray, Character, plain}
@@ -19,7 +19,7 @@ characters (b ∷ []) = plain b ∷ []
 characters (b ∷ c ∷ bytes) = if b == 92 then escaped c ∷ characters bytes else plain b ∷ characters (c ∷ bytes)
 
 -- a token, apart from its place in memory
-abbrev pub lexeme : Token → Lexeme
+abbrev pub lexeme : HoaToken → Lexeme
 lexeme (tokens.Number n) = number n
 lexeme (tokens.Identifier w) = identifier w.now
 lexeme (tokens.Header w) = header w.now

@@ -1,6 +1,6 @@
 -- Steps that may fail.
 use Rattle.std.specs.Prelude.{◌≡◌, ℕ, ◌+◌, ◌<◌, ◌≤◌, List, length, get_or, take, Option, Some, None, Result, Ok, Err}
-use Rattle.pg_ltl.specs.declared.token.Token.{Token}
+use Rattle.pg_ltl.specs.declared.token.FormulaToken.{FormulaToken}
 use Rattle.pg_ltl.specs.Formulas.{Formula}
 use Rattle.pg_ltl.specs.FormulaTexts.{AreTokensOf, BeginsOne, BeginsNone}
 use Rattle.pg_ltl.specs.Mirrors.Run.{Kept, turn_at, steps_at, starting}
@@ -17,27 +17,27 @@ Gives view (Ok x) read = read ≡ Some (view x)
 Gives view (Err e) read = Fails e read
 
 -- memory ran out, or the tokens spell no formula
-abbrev pub IsMisread : List Token → Misplaced → Type 0
+abbrev pub IsMisread : List FormulaToken → Misplaced → Type 0
 IsMisread ts Memory = Unit {0}
 IsMisread ts (At place) = (f : Formula) → AreTokensOf ts f → ⊥
 
 -- all tokens before this one can be read, and this one, if there is one, is out of place
-pub record IsStuck (ts : List Token) (place : ℕ) : Type 0 where
+pub record IsStuck (ts : List FormulaToken) (place : ℕ) : Type 0 where
   pub within : place ≤ length ts
   pub kept : Kept
   pub reached : steps_at starting (take place ts) ≡ Some kept
-  pub stuck : (d : Token) → place < length ts → turn_at kept (get_or ts place d) ≡ None
+  pub stuck : (d : FormulaToken) → place < length ts → turn_at kept (get_or ts place d) ≡ None
 
-abbrev pub StopsRun : List Token → Misplaced → Type 0
+abbrev pub StopsRun : List FormulaToken → Misplaced → Type 0
 StopsRun ts Memory = Unit {0}
 StopsRun ts (At place) = IsStuck ts place
 
 -- the tokens before this one begin some formula, and with this one, if there is one, they begin none
-pub record IsStopped (ts : List Token) (place : ℕ) : Type 0 where
+pub record IsStopped (ts : List FormulaToken) (place : ℕ) : Type 0 where
   pub within : place ≤ length ts
   pub before : BeginsOne (take place ts)
   pub stuck : place < length ts → BeginsNone (take (place + 1) ts)
 
-abbrev pub StopsTokens : List Token → Misplaced → Type 0
+abbrev pub StopsTokens : List FormulaToken → Misplaced → Type 0
 StopsTokens ts Memory = Unit {0}
 StopsTokens ts (At place) = IsStopped ts place

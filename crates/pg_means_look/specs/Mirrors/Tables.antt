@@ -2,9 +2,9 @@
 use Rattle.std.specs.Prelude.{ℕ, Bool, false, List, [], map, slice_index_or}
 use Rattle.std.specs.declared.vec.Vec.{Vec}
 use Rattle.std.specs.declared.alloc.Global.{Global}
-use Rattle.pg_means_look.specs.declared.automaton.Edge.{Edge}
+use Rattle.pg_means_look.specs.declared.automaton.ParityEdge.{ParityEdge}
 
-abbrev pub edge_at : List Edge → ℕ → Edge
+abbrev pub edge_at : List ParityEdge → ℕ → ParityEdge
 edge_at edges place = slice_index_or edges place (record { target = 0; priority = 0 })
 
 -- the items of the list at this place, or none past the end

@@ -7,8 +7,8 @@ use Rattle.pg_text.specs.Solutions.{choice, winner}
 use Rattle.pg_hoa_automaton.specs.Automata.{Step, Automaton, next}
 use Rattle.pg_synth.specs.AutomatonGames.{StandsFor, arrival_of}
 use Rattle.pg_synth.specs.declared.place.Place.TheVariants.{Answer, Arrival}
-use Rattle.pg_verify.specs.declared.verdict.Verdict.{Verdict}
-use Rattle.pg_verify.specs.declared.verdict.Verdict.TheVariants.{Accepted, Rejected, Stuck}
+use Rattle.pg_verify.specs.declared.verdict.CircuitVerdict.{CircuitVerdict}
+use Rattle.pg_verify.specs.declared.verdict.CircuitVerdict.TheVariants.{Accepted, Rejected, Stuck}
 use Rattle.pg_verify.specs.Mirrors.Lassos.{after, IsDeadEnd, IsRefuted}
 
 -- at the vertex u, an arrival at the state, Odd chooses the letter, which leads to the vertex w, and Odd wins w
@@ -47,12 +47,12 @@ pub record IsWalk (p : Automaton) (game : List GameVertex) (initial : ℕ) (solu
   pub reached : after p (Some p.start) word ≡ Some state
 
 -- the lasso of the word's two parts
-abbrev pub IsLasso : List ℕ → ℕ → Verdict → Type 0
+abbrev pub IsLasso : List ℕ → ℕ → CircuitVerdict → Type 0
 IsLasso word place (Rejected stem loop) = (stem.items ≡ take place word) × (loop.items ≡ drop place word)
 IsLasso word place verdict = ⊥
 
 -- a verdict that doesn't accept shows this of a product
-abbrev pub Shows : Automaton → Verdict → Type 0
+abbrev pub Shows : Automaton → CircuitVerdict → Type 0
 Shows p Accepted = ⊥
 Shows p (Stuck word) = IsDeadEnd p word.items
 Shows p (Rejected stem loop) = IsRefuted p stem.items loop.items

@@ -1,7 +1,7 @@
 use Rattle.pg_hoa.proofs.Common.{◌≡◌, ◌∙◌, ℕ, [], ◌∷◌, ◌++◌, ◌*◌, ◌%◌, ◌+◌, ◌^◌, ◌<◌, map, take, length, None, refl, ap, subst, Bor, arith}
 use Rattle.pg_hoa.proofs.Common.{shl_whole, pow_pos, append-nil, take_all, rising, some, step, edge_in, stage, Adds, IsRegrouped, at_line}
 use Rattle.pg_hoa.proofs.Common.{at_letters}
-use Rattle.pg_hoa_syntax.specs.declared.body.Edge.{Edge}
+use Rattle.pg_hoa_syntax.specs.declared.body.ReadEdge.{ReadEdge}
 use Rattle.pg_hoa.proofs.Counting.{none_counts, all_count}
 use Rattle.pg_hoa.proofs.TableFilling.{adds_none, adds_then, adds_extended}
 use Rattle.pg_hoa.proofs.TablePlaces.{line_of, no_edges, edge_added, more_items}
@@ -31,9 +31,9 @@ loop-edge-preserved c =
     let items = c.deref-edge-items.result.now in
     let letters : ℕ = 2 ^ c.args.propositions in
     let here : i < length items = omega (arith, c.loop-edge-test.true) in
-    let before = map (λ (r : Bor Edge). edge_in r.now) (take i items) in
-    let behind = map (λ (r : Bor Edge). edge_in r.now) (take (i + 1) items) in
-    let all : before ++ (edge_in e.now ∷ []) ≡ behind = more_items (λ (r : Bor Edge). edge_in r.now) items i e here c.edge-item.is in
+    let before = map (λ (r : Bor ReadEdge). edge_in r.now) (take i items) in
+    let behind = map (λ (r : Bor ReadEdge). edge_in r.now) (take (i + 1) items) in
+    let all : before ++ (edge_in e.now ∷ []) ≡ behind = more_items (λ (r : Bor ReadEdge). edge_in r.now) items i e here c.edge-item.is in
     let first : l.state * letters % 18446744073709551616 ≡ l.state * letters =
     shl_whole l.state 32 c.args.propositions 64 (omega arith) (omega arith) in
     let sets : rising (c.as_slice-own.result.now ++ c.as_slice-more.result.now) ≡ rising (l.sets.items ++ e.now.sets.items) =
@@ -55,12 +55,12 @@ returns c =
     let l = c.args.line.now in
     let letters : ℕ = 2 ^ c.args.propositions in
     let items = c.deref-edge-items.result.now in
-    let order = map (λ (r : Bor Edge). edge_in r.now) c.in_ok-order.order.items in
+    let order = map (λ (r : Bor ReadEdge). edge_in r.now) c.in_ok-order.order.items in
     let whole : take c.loop-edge.edge-index items ≡ c.in_ok-order.order.items =
     take_all c.loop-edge.edge-index items c.loop-edge-test.false ∙ c.deref-edge-items.ensures.value in
     let all : Adds c.args.shape (at_line letters (line_of l.state l.sets.items order)) (stage c.place_of.new.filling)
     (stage c.loop-edge.filling) =
-    subst (λ es. Adds c.args.shape (at_line letters (line_of l.state l.sets.items (map (λ (r : Bor Edge). edge_in r.now) es)))
+    subst (λ es. Adds c.args.shape (at_line letters (line_of l.state l.sets.items (map (λ (r : Bor ReadEdge). edge_in r.now) es)))
     (stage c.place_of.new.filling) (stage c.loop-edge.filling)) whole c.loop-edge.invariant in
     let found = c.in_ok-order.ensures c.as_slice-own.result.now
     (c.counts_with-counts.ensures ∙ all_count c.args.shape None [] c.as_slice-own.result.now (none_counts c.args.shape)) in

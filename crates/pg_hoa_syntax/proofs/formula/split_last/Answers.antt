@@ -1,5 +1,5 @@
 use Rattle.pg_hoa_syntax.proofs.Common.{◌∙◌, ap, sym, split_last}
-use Rattle.pg_hoa_syntax.proofs.Frames.{split_pushed}
+use Rattle.pg_hoa_syntax.proofs.OpenBrackets.{split_pushed}
 use Rattle.pg_hoa_syntax.proofs.formula.split_last.Goals as goal
 
 pub returns-in-Some : goal.returns-in-Some

@@ -1,16 +1,16 @@
 use Rattle.pg_hoa_syntax.proofs.Common.{◌≡◌, ◌∙◌, ap, sym, Option, Some, None, ℕ, List, refl, Bor, arith, nat_tests, err_from_is_err_and}
-use Rattle.pg_hoa_syntax.proofs.Common.{option_map, Token, Lexeme, lex, lexeme, first, head_in}
-use Rattle.pg_hoa_syntax.specs.declared.token.Token.TheVariants as tokens
+use Rattle.pg_hoa_syntax.proofs.Common.{option_map, HoaToken, Lexeme, lex, lexeme, first, head_in}
+use Rattle.pg_hoa_syntax.specs.declared.token.HoaToken.TheVariants as tokens
 use Rattle.pg_hoa_syntax.proofs.HeaderSteps.{IsElse, headers_fail, headers_end, headers_more, header_fails, fewer, headers_refused}
 use Rattle.pg_hoa_syntax.proofs.header.headers.Goals as goal
 
 -- the token that was found
-found_token : (found : Option Token) (token same : Token) (ts after : List Lexeme) → first ts ≡ Some (option_map lexeme found, after)
+found_token : (found : Option HoaToken) (token same : HoaToken) (ts after : List Lexeme) → first ts ≡ Some (option_map lexeme found, after)
     → found ≡ Some token → token ≡ same → first ts ≡ Some (Some (lexeme same), after)
-found_token found token same ts after e is t = e ∙ ap (λ (o : Option Token). Some (option_map lexeme o, after))
-    (is ∙ ap (λ (u : Token). Some u) t)
+found_token found token same ts after e is t = e ∙ ap (λ (o : Option HoaToken). Some (option_map lexeme o, after))
+    (is ∙ ap (λ (u : HoaToken). Some u) t)
 
-is_else : (token : Token) → ((name : Bor (List ℕ)) → token ≡ tokens.Header name → ⊥) → (token ≡ tokens.Body → ⊥)
+is_else : (token : HoaToken) → ((name : Bor (List ℕ)) → token ≡ tokens.Header name → ⊥) → (token ≡ tokens.Body → ⊥)
     → IsElse (Some (lexeme token))
 is_else (tokens.Header name) no_header no_body = absurd (no_header name refl)
 is_else tokens.Body no_header no_body = absurd (no_body refl)
@@ -62,4 +62,4 @@ returns-in_default c =
 pub returns-in-None : goal.returns-in-None
 returns-in-None c =
     sym c.headers.invariant ∙ headers_refused (head_in c.headers.head) (lex c.headers.rest.now) (lex c.in_ok-found.after.now) None
-    (c.in_ok-found.ensures ∙ ap (λ (o : Option Token). Some (option_map lexeme o, lex c.in_ok-found.after.now)) c.in-None.is) tt
+    (c.in_ok-found.ensures ∙ ap (λ (o : Option HoaToken). Some (option_map lexeme o, lex c.in_ok-found.after.now)) c.in-None.is) tt

@@ -4,10 +4,10 @@ use Rattle.pg_ltl.specs.Mirrors.Run.{completed_at}
 use Rattle.pg_ltl.proofs.reading.completed.Given as goal
 
 -- what is left gives the same
-abbrev pub invariant-frames : goal.invariant-frames
-invariant-frames l =
-    completed_at l.nodes.items (reverse l.frames.items) l.place
-    ≡ completed_at l.initial.nodes.items (reverse l.initial.frames.items) l.initial.place
+abbrev pub invariant-pending : goal.invariant-pending
+invariant-pending l =
+    completed_at l.nodes.items (reverse l.pending.items) l.place
+    ≡ completed_at l.initial.nodes.items (reverse l.initial.pending.items) l.initial.place
 
-abbrev pub decreases-frames : goal.decreases-frames
-decreases-frames l = length l.frames.items
+abbrev pub decreases-pending : goal.decreases-pending
+decreases-pending l = length l.pending.items

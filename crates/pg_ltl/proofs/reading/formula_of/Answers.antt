@@ -1,6 +1,6 @@
 use Rattle.std.proofs.Common.{List}
 use Rattle.std.proofs.lemmas.Result.{err_from_is_err_and}
-use Rattle.pg_ltl.specs.declared.token.Token.{Token}
+use Rattle.pg_ltl.specs.declared.token.FormulaToken.{FormulaToken}
 use Rattle.pg_ltl.specs.declared.reading.Misplaced.{Misplaced}
 use Rattle.pg_ltl.specs.declared.reading.Misplaced.TheVariants.{Memory, At}
 use Rattle.pg_ltl.specs.Mirrors.Run.{parse_at}
@@ -8,11 +8,11 @@ use Rattle.pg_ltl.specs.Mirrors.Readings.{Fails, IsMisread, StopsRun, StopsToken
 use Rattle.pg_ltl.proofs.Shown.{found_there, none_there, stopped}
 use Rattle.pg_ltl.proofs.reading.formula_of.Goals as goal
 
-misread : (ts : List Token) (fault : Misplaced) → Fails fault (parse_at ts) → IsMisread ts fault
+misread : (ts : List FormulaToken) (fault : Misplaced) → Fails fault (parse_at ts) → IsMisread ts fault
 misread ts Memory h = tt
 misread ts (At place) h = none_there ts h
 
-stops : (ts : List Token) (fault : Misplaced) → StopsRun ts fault → StopsTokens ts fault
+stops : (ts : List FormulaToken) (fault : Misplaced) → StopsRun ts fault → StopsTokens ts fault
 stops ts Memory h = tt
 stops ts (At place) h = stopped ts place h
 

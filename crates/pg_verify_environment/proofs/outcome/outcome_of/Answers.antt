@@ -1,8 +1,8 @@
 use Rattle.std.proofs.Common.{sym, subst}
 use Rattle.pg_hoa_automaton.specs.Formulas.{Formula}
 use Rattle.pg_hoa_automaton.specs.Shapes.{FitsShape}
-use Rattle.pg_verify.specs.declared.verdict.Verdict.{Verdict}
-use Rattle.pg_verify.specs.declared.verdict.Verdict.TheVariants.{Accepted, Rejected, Stuck}
+use Rattle.pg_verify.specs.declared.verdict.CircuitVerdict.{CircuitVerdict}
+use Rattle.pg_verify.specs.declared.verdict.CircuitVerdict.TheVariants.{Accepted, Rejected, Stuck}
 use Rattle.pg_verify.specs.Verdicts as verdicts
 use Rattle.pg_verify_environment.proofs.Made.{other_of}
 use Rattle.pg_verify_environment.proofs.Outcomes.{refutes, answered, never_stuck}

@@ -1,6 +1,6 @@
 use Rattle.std.proofs.Common.{inl, inr}
 use Rattle.pg_cli_request.proofs.Refused.{refused_by}
-use Rattle.pg_cli_request.proofs.answering.answer.Goals as goal
+use Rattle.pg_cli_request.proofs.answering.carry_out.Goals as goal
 
 pub returns-in_err-given-clause-refused : goal.returns-in_err-given-clause-refused
 returns-in_err-given-clause-refused g c =

@@ -1,6 +1,6 @@
 use Rattle.pg_cli_command.proofs.Common.{subst, sym, Answers, Command}
 use Rattle.pg_cli_command.proofs.Outcomes.{answered, printed}
-use Rattle.pg_cli_command.proofs.program.answer.Goals as goal
+use Rattle.pg_cli_command.proofs.program.write_answer_by.Goals as goal
 
 pub returns-in-Measure-clause-answer : goal.returns-in-Measure-clause-answer
 returns-in-Measure-clause-answer g c =
