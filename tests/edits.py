@@ -10,7 +10,8 @@ about its own function alone, or about one of them if it changes several:
 - anything else is a failure: the function is proved, its proof only misses names that the edit took away, the prover reaches a limit, or
   the edit can't be made, compiled or read.
 The libraries that the crate uses must be there, as ./build or the gate left them. `./test --proofs` tries one in four of each crate's
-edits, other ones with each commit, and those that change a file whose code the last landing changed; with --all it tries all.
+edits, other ones with each commit, and all of a crate in which more than comments changed since the release before the last; with --all it
+tries all.
 """
 import argparse
 import os
@@ -55,7 +56,6 @@ class Edit:
 
     def __init__(self, path, folder):
         self.name, self.pairs, functions, file, old = f"{path.parent.name}/{path.stem}", [], [], None, None
-        self.files = {str(path.relative_to(TOP))}
         for line in path.read_text().splitlines():
             word, _, text = line.partition(":")
             text = text.removeprefix(" ")
@@ -68,7 +68,6 @@ class Edit:
             elif word == "new":
                 self.pairs.append((file, old, text))
         for file, old, _ in self.pairs:
-            self.files.add(f"crates/{path.parent.name}/{file}")
             text = (folder / file).read_text()
             if text.count(old) != 1:
                 raise BadEdit(f"{self.name}: its text is in {file} {text.count(old)} times, and not once")
@@ -257,13 +256,13 @@ def git(*words):
     return ran.stdout.split() if ran.returncode == 0 else []
 
 
-def landed():
-    """The files of crates/ and edits/ in which the last landing changed more than comments. Each landing ends with a release, so they differ
-    from those of the release before the last."""
+def changed():
+    """The crates in which more than comments changed since the release before the last, in their sources, definitions, proofs or edits."""
     releases = git("log", "-2", "--format=%H", "--", "release/ABOUT")
     if len(releases) != 2:
         return set()
-    return set(git("diff", "--numstat", "--no-renames", "-I^ *(//|--)", releases[-1], "--", "crates", "edits")[2::3])
+    paths = git("diff", "--numstat", "--no-renames", "-I^ *(//|--)", releases[-1], "--", "crates", "edits")[2::3]
+    return {path.split("/")[1] for path in paths}
 
 
 def part():
@@ -271,20 +270,20 @@ def part():
     return PARTS, int((git("rev-list", "--count", "HEAD") or ["0"])[0]) % PARTS
 
 
-def chosen(edits, is_whole, changed):
-    """Those of a crate's edits that are tried: all, or a part and those of the files that changed."""
+def chosen(edits, is_whole):
+    """Those of a crate's edits that are tried."""
     count, first = part()
-    return [it for place, it in enumerate(edits) if is_whole or place % count == first or it.files & changed]
+    return edits if is_whole else edits[first::count]
 
 
 def run(names=(), is_whole=False):
-    """Tries all edits of these crates; if none is named, those of every crate, all of them or some. Answers how many passed and failed."""
+    """Tries all edits of these crates; if none is named, those of every crate, all of them or a part. Answers how many passed and failed."""
     rtlib, start, spent = scripts.script("build").toolchain(is_still=True), time.monotonic(), processor_seconds()
     rtlib.guarded()  # this ends the prover when this process ends; it can't start once there are threads
-    is_whole, changed = is_whole or bool(names), landed()
+    whole = set(names) or (set(os.listdir(EDITS)) if is_whole else changed())
     wanted = set(names or os.listdir(EDITS))
-    if not is_whole:
-        print(f"edits: part {part()[1] + 1} of {PARTS} of each crate's, and those of the files that the last landing changed", flush=True)
+    if wanted - whole:
+        print(f"edits: part {part()[1] + 1} of {PARTS} of each crate's, and all of {', '.join(sorted(whole & wanted)) or 'none'}", flush=True)
     crates = [it for it in rtlib.crates_below(str(TOP)) if it.name in wanted]
     lacking = {below.name for it in crates for below in it.below() if not below.is_built()}
     if lacking:
@@ -292,7 +291,7 @@ def run(names=(), is_whole=False):
         return 0, 1
     faults, copies = [f"there is no crate {it}" for it in sorted(wanted - {it.name for it in crates})], []
     for crate in crates:
-        copies += [(crate, it) for it in share_out(chosen(read(crate, faults), is_whole, changed))]
+        copies += [(crate, it) for it in share_out(chosen(read(crate, faults), crate.name in whole))]
     copies.sort(key=lambda it: len(it[1]), reverse=True)
     processors = len(os.sched_getaffinity(0))
     most = max([n for n in range(1, processors + 1) if rtlib.fits(*[ROOM] * n)], default=1)
