@@ -3,7 +3,7 @@
 ghost use Rattle.std.specs.Prelude.{◌≡◌, ◌≢◌};
 
 use pg_cli::{CliFault, read_input};
-use pg_cli_request::{Fault, Texts};
+use pg_cli_request::{Fault, FileTexts};
 use pg_cli_words::STANDARD_INPUT;
 use std::alloc::AllocError;
 use std::fs::{self, Files, OpenFile};
@@ -36,7 +36,7 @@ fn open_file<R: Files>(rt: &R, name: &str) -> io::Result<R::File> {
     Ok(file)
 }
 
-impl<R: Files + Input + AllocGlobal> Texts for Disk<'_, R> {
+impl<R: Files + Input + AllocGlobal> FileTexts for Disk<'_, R> {
     // no contract says what files hold
     ghost holds = { λ _ _ _. Unit {0} };
 

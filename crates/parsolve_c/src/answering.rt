@@ -92,7 +92,7 @@ fn hand_over(text: &[u8], output: &mut [u8], written: &mut usize, code: u32) -> 
 
 /// The reply to a command and its input.
 #[derive(Drop)]
-enum Reply {
+enum CommandReply {
     /// What the command prints.
     Answer(Vec<u8>),
     /// The line of the fault for which it prints nothing.
@@ -104,21 +104,21 @@ enum Reply {
 }
 
 /// Returns the reply to the command with this number and its input.
-fn reply_to(alloc: Global, number: u32, input: &[u8]) -> Reply
+fn reply_to(alloc: Global, number: u32, input: &[u8]) -> CommandReply
     ensures { IsReply number input.now result }
 {
     let Some(command) = command_of(number) else {
-        return Reply::NoCommand;
+        return CommandReply::NoCommand;
     };
     match answered(alloc, command, input) {
-        Ok(text) => Reply::Answer(text),
+        Ok(text) => CommandReply::Answer(text),
         // reading a text in memory can't fail, and a text fails to grow only if memory runs out
         Err(CliFault::OutOfMemory) | Err(CliFault::Read) | Err(CliFault::Write) => {
-            Reply::OutOfMemory
+            CommandReply::OutOfMemory
         }
         Err(fault) => match line_of(alloc, &fault) {
-            Ok(line) => Reply::FaultLine(line),
-            Err(_) => Reply::OutOfMemory,
+            Ok(line) => CommandReply::FaultLine(line),
+            Err(_) => CommandReply::OutOfMemory,
         },
     }
 }
@@ -149,10 +149,10 @@ pub extern "C" fn parsolve_answer(
     ensures silent { result ≢ PARSOLVE_OK → result ≢ PARSOLVE_FAULT → result ≢ PARSOLVE_TOO_SHORT → written.new ≡ written.old }
 {
     match reply_to(alloc, command, input) {
-        Reply::Answer(text) => hand_over(&text, output, written, PARSOLVE_OK),
-        Reply::FaultLine(line) => hand_over(&line, output, written, PARSOLVE_FAULT),
-        Reply::NoCommand => PARSOLVE_COMMAND,
-        Reply::OutOfMemory => PARSOLVE_OUT_OF_MEMORY,
+        CommandReply::Answer(text) => hand_over(&text, output, written, PARSOLVE_OK),
+        CommandReply::FaultLine(line) => hand_over(&line, output, written, PARSOLVE_FAULT),
+        CommandReply::NoCommand => PARSOLVE_COMMAND,
+        CommandReply::OutOfMemory => PARSOLVE_OUT_OF_MEMORY,
     }
 }
 
@@ -183,15 +183,15 @@ pub extern "C" fn parsolve_answer_new<'a>(
     ensures kept { result ≢ PARSOLVE_OK → result ≢ PARSOLVE_FAULT → text.new ≡ text.old }
 {
     match reply_to(alloc, command, input) {
-        Reply::Answer(answer) => {
+        CommandReply::Answer(answer) => {
             text.bytes = answer.leak();
             PARSOLVE_OK
         }
-        Reply::FaultLine(line) => {
+        CommandReply::FaultLine(line) => {
             text.bytes = line.leak();
             PARSOLVE_FAULT
         }
-        Reply::NoCommand => PARSOLVE_COMMAND,
-        Reply::OutOfMemory => PARSOLVE_OUT_OF_MEMORY,
+        CommandReply::NoCommand => PARSOLVE_COMMAND,
+        CommandReply::OutOfMemory => PARSOLVE_OUT_OF_MEMORY,
     }
 }

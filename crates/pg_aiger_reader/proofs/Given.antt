@@ -10,7 +10,7 @@ use Rattle.pg_aiger_reader.proofs.Common.{Bor, get_or-map, length-map, map_push,
 use Rattle.pg_aiger_reader.specs.Views.{symbol_in}
 use Rattle.pg_aiger_reader.specs.declared.symbol.Symbol as memory
 use Rattle.pg_aiger_reader.specs.declared.symbol.SymbolKind.TheVariants as kinds
-use Rattle.pg_aiger_reader.specs.declared.ties.Place.TheVariants.{At}
+use Rattle.pg_aiger_reader.specs.declared.ties.SymbolPlace.TheVariants.{At}
 
 pub none_given : (kind : Kind) (count : ℕ) (symbols : List Symbol) (names : List (List ℕ)) → AreGiven kind count symbols names 0 []
 none_given kind count symbols names = record {

@@ -11,8 +11,8 @@ use Rattle.pg_aiger_reader.specs.declared.fault.ReaderFault.{ReaderFault}
 use Rattle.pg_aiger_reader.specs.declared.fault.ReaderFault.TheVariants.{OutOfMemory, Syntax, NumberTooLarge, TooLarge, LeftOut, Reset}
 use Rattle.pg_aiger_reader.specs.Faults.{IsLeftOut, IsHeaderFault}
 use Rattle.pg_aiger_reader.specs.declared.header.Header.{Header}
-use Rattle.pg_aiger_reader.specs.declared.item.Form.{Form}
-use Rattle.pg_aiger_reader.specs.declared.item.Form.TheVariants.{Ascii, Binary}
+use Rattle.pg_aiger_reader.specs.declared.item.AigerFormat.{AigerFormat}
+use Rattle.pg_aiger_reader.specs.declared.item.AigerFormat.TheVariants.{Ascii, Binary}
 use Rattle.pg_aiger_reader.specs.Texts.{BeginsLine, form_text, AreVariables}
 use Rattle.pg_aiger_reader.specs.Mirrors.Headers.{form_at, left_out, fits, head, within, over}
 
@@ -76,7 +76,7 @@ four_tests a b c d k l m n rest e =
     let third = and_parts _ (eqb b l) second.0 in
     four a b c d k l m n rest (eqb-true a k third.0) (eqb-true b l third.1) (eqb-true c m second.1) (eqb-true d n first.1)
 
-form_found : (bytes : List ℕ) (x : Form × List ℕ) → form_at bytes ≡ Some x → bytes ≡ form_text x.0 ++ x.1
+form_found : (bytes : List ℕ) (x : AigerFormat × List ℕ) → form_at bytes ≡ Some x → bytes ≡ form_text x.0 ++ x.1
 form_found [] x e = absurd (none_is_some x e)
 form_found (a ∷ []) x e = absurd (none_is_some x e)
 form_found (a ∷ b ∷ []) x e = absurd (none_is_some x e)
@@ -84,27 +84,27 @@ form_found (a ∷ b ∷ c ∷ []) x e = absurd (none_is_some x e)
 form_found (a ∷ b ∷ c ∷ d ∷ rest) x e =
     elim (chosen (eqb a 97 && eqb b 97 && eqb c 103 && eqb d 32) (some (Ascii, rest)) _ (some x) e) [
       | inl w ↦
-          subst (λ (y : Form × List ℕ). (a ∷ b ∷ c ∷ d ∷ rest) ≡ form_text y.0 ++ y.1) (some_is (Ascii, rest) x w.1)
+          subst (λ (y : AigerFormat × List ℕ). (a ∷ b ∷ c ∷ d ∷ rest) ≡ form_text y.0 ++ y.1) (some_is (Ascii, rest) x w.1)
           (four_tests a b c d 97 97 103 32 rest w.0)
       | inr v ↦ elim (chosen (eqb a 97 && eqb b 105 && eqb c 103 && eqb d 32) (some (Binary, rest)) none (some x) v.1) [
         | inl w ↦
-            subst (λ (y : Form × List ℕ). (a ∷ b ∷ c ∷ d ∷ rest) ≡ form_text y.0 ++ y.1) (some_is (Binary, rest) x w.1)
+            subst (λ (y : AigerFormat × List ℕ). (a ∷ b ∷ c ∷ d ∷ rest) ≡ form_text y.0 ++ y.1) (some_is (Binary, rest) x w.1)
             (four_tests a b c d 97 105 103 32 rest w.0)
         | inr w ↦ absurd (none_is_some x w.1)
       ]
     ]
 
-form_only : (form : Form) (text : List ℕ) → form_at (form_text form ++ text) ≡ Some (form, text)
+form_only : (form : AigerFormat) (text : List ℕ) → form_at (form_text form ++ text) ≡ Some (form, text)
 form_only Ascii text = refl
 form_only Binary text = refl
 
 -- ---- headers
 
-fits_found : (form : Form) (m i l a : ℕ) → fits form m i l a ≡ true → AreVariables form (i + l + a) m
+fits_found : (form : AigerFormat) (m i l a : ℕ) → fits form m i l a ≡ true → AreVariables form (i + l + a) m
 fits_found Ascii m i l a e = leb-true _ _ e
 fits_found Binary m i l a e = eqb-true _ _ e
 
-fits_only : (form : Form) (m i l a : ℕ) → AreVariables form (i + l + a) m → fits form m i l a ≡ true
+fits_only : (form : AigerFormat) (m i l a : ℕ) → AreVariables form (i + l + a) m → fits form m i l a ≡ true
 fits_only Ascii m i l a are = le-leb _ _ are
 fits_only Binary m i l a are = eq-eqb _ _ are
 
@@ -112,14 +112,14 @@ either_false : (a b : Bool) → a || b ≡ false → (a ≡ false) × (b ≡ fal
 either_false true b e = absurd cc
 either_false false b e = (refl, e)
 
-record Checked (form : Form) (m i l o a : ℕ) (out : Option Section) (h : Header) : Type 0 where
+record Checked (form : AigerFormat) (m i l o a : ℕ) (out : Option Section) (h : Header) : Type 0 where
   is : h ≡ head form m i l o a
   none_out : out ≡ None
   fit : AreVariables form (i + l + a) m
   few : m ≤ 16777216
   few_outputs : o ≤ 16777216
 
-within_found : (form : Form) (m i l o a : ℕ) (out : Option Section) (h : Header) → within form m i l o a out ≡ Some h → Checked form m i l o a out h
+within_found : (form : AigerFormat) (m i l o a : ℕ) (out : Option Section) (h : Header) → within form m i l o a out ≡ Some h → Checked form m i l o a out h
 within_found form m i l o a (Some s) h e = absurd (none_is_some h e)
 within_found form m i l o a None h e =
     elim (chosen (ltb 16777216 m || ltb 16777216 o) none _ (some h) e) [
@@ -142,7 +142,7 @@ pub header_found : (bytes : List ℕ) (x : Header × List ℕ) → header_at byt
 unfolding header_at header_of
 header_found bytes x e = of_form (form_at bytes) refl e
   where
-    made : (form : Form) (text rest : List ℕ) (m i l o a : ℕ) (more : List ℕ) (h : Header) → bytes ≡ form_text form ++ text
+    made : (form : AigerFormat) (text rest : List ℕ) (m i l o a : ℕ) (more : List ℕ) (h : Header) → bytes ≡ form_text form ++ text
         → line_at 9 text ≡ Some (m ∷ i ∷ l ∷ o ∷ a ∷ more, rest) → Checked form m i l o a (left_out more) h → IsHeader bytes h rest
     made form text rest m i l o a more h begins same c =
         let few = line_few 9 text (m ∷ i ∷ l ∷ o ∷ a ∷ more, rest) same in
@@ -160,7 +160,7 @@ header_found bytes x e = of_form (form_at bytes) refl e
           few_outputs = c.few_outputs;
         })
 
-    of_head : (form : Form) (text rest : List ℕ) (m i l o a : ℕ) (more : List ℕ) → bytes ≡ form_text form ++ text
+    of_head : (form : AigerFormat) (text rest : List ℕ) (m i l o a : ℕ) (more : List ℕ) → bytes ≡ form_text form ++ text
         → line_at 9 text ≡ Some (m ∷ i ∷ l ∷ o ∷ a ∷ more, rest) → (read : Option Header) → within form m i l o a (left_out more) ≡ read
         → (read >>= λ h. Some (h, rest)) ≡ Some x → IsHeader bytes x.0 x.1
     of_head form text rest m i l o a more begins same None is e = absurd (none_is_some x e)
@@ -168,7 +168,7 @@ header_found bytes x e = of_form (form_at bytes) refl e
         subst (λ (y : Header × List ℕ). IsHeader bytes y.0 y.1) (some_is (h, rest) x e)
         (made form text rest m i l o a more h begins same (within_found form m i l o a (left_out more) h is))
 
-    of_line : (form : Form) (text : List ℕ) → bytes ≡ form_text form ++ text → (read : Option (List ℕ × List ℕ)) → line_at 9 text ≡ read
+    of_line : (form : AigerFormat) (text : List ℕ) → bytes ≡ form_text form ++ text → (read : Option (List ℕ × List ℕ)) → line_at 9 text ≡ read
         → (read >>= λ y. header_of form y.0 >>= λ h. Some (h, y.1)) ≡ Some x → IsHeader bytes x.0 x.1
     of_line form text begins None same e = absurd (none_is_some x e)
     of_line form text begins (Some ([], rest)) same e = absurd (none_is_some x e)
@@ -179,7 +179,7 @@ header_found bytes x e = of_form (form_at bytes) refl e
     of_line form text begins (Some (m ∷ i ∷ l ∷ o ∷ a ∷ more, rest)) same e =
         of_head form text rest m i l o a more begins same (within form m i l o a (left_out more)) refl e
 
-    of_form : (read : Option (Form × List ℕ)) → form_at bytes ≡ read
+    of_form : (read : Option (AigerFormat × List ℕ)) → form_at bytes ≡ read
         → (read >>= λ y. line_at 9 y.1 >>= λ z. header_of y.0 z.0 >>= λ h. Some (h, z.1)) ≡ Some x → IsHeader bytes x.0 x.1
     of_form None same e = absurd (none_is_some x e)
     of_form (Some y) same e = of_line y.0 y.1 (form_found bytes y same) (line_at 9 y.1) refl e
@@ -306,7 +306,7 @@ over_only m o ns (Reset n) is = absurd is
 
 -- a header that is refused for this
 pub record IsRefusedHeader (bytes : List ℕ) (fault : ReaderFault) : Type 0 where
-  pub form : Form
+  pub form : AigerFormat
   pub text : List ℕ
   pub rest : List ℕ
   pub m : ℕ
@@ -324,7 +324,7 @@ pub fault_found : (bytes : List ℕ) (fault : ReaderFault) → fault_at bytes �
 unfolding fault_at header_fault
 fault_found bytes fault e = of_form (form_at bytes) refl e
   where
-    of_line : (form : Form) (text : List ℕ) → bytes ≡ form_text form ++ text → (read : Option (List ℕ × List ℕ)) → line_at 9 text ≡ read
+    of_line : (form : AigerFormat) (text : List ℕ) → bytes ≡ form_text form ++ text → (read : Option (List ℕ × List ℕ)) → line_at 9 text ≡ read
         → (read >>= λ y. header_fault y.0) ≡ Some fault → IsRefusedHeader bytes fault
     of_line form text begins None same e = absurd (none_is_some fault e)
     of_line form text begins (Some ([], rest)) same e = absurd (none_is_some fault e)
@@ -351,7 +351,7 @@ fault_found bytes fault e = of_form (form_at bytes) refl e
           wrong = over_found m o more (left_out more) fault short refl e;
         }
 
-    of_form : (read : Option (Form × List ℕ)) → form_at bytes ≡ read → (read >>= λ y. line_at 9 y.1 >>= λ z. header_fault z.0) ≡ Some fault
+    of_form : (read : Option (AigerFormat × List ℕ)) → form_at bytes ≡ read → (read >>= λ y. line_at 9 y.1 >>= λ z. header_fault z.0) ≡ Some fault
         → IsRefusedHeader bytes fault
     of_form None same e = absurd (none_is_some fault e)
     of_form (Some y) same e = of_line y.0 y.1 (form_found bytes y same) (line_at 9 y.1) refl e

@@ -5,8 +5,8 @@ use Rattle.pg_aiger_reader.proofs.Common.{eqb-false, ltb-true, lt-ltb, le-ltb, l
 use Rattle.pg_aiger_reader.proofs.Common.{none_is_some, if◌then◌else◌, line_at, literal_at, input_at, latch_at, ascii_gate_at, groups_at, binary_gate_at, gate_at}
 use Rattle.pg_aiger_reader.proofs.Lines.{line_found, line_only}
 use Rattle.pg_aiger.specs.declared.gate.Gate.{Gate}
-use Rattle.pg_aiger_reader.specs.declared.item.Form.{Form}
-use Rattle.pg_aiger_reader.specs.declared.item.Form.TheVariants.{Ascii, Binary}
+use Rattle.pg_aiger_reader.specs.declared.item.AigerFormat.{AigerFormat}
+use Rattle.pg_aiger_reader.specs.declared.item.AigerFormat.TheVariants.{Ascii, Binary}
 use Rattle.pg_aiger_reader.specs.declared.item.LatchLine.{LatchLine}
 use Rattle.pg_aiger_reader.specs.Texts.{BeginsLine, IsInput, IsLatch, IsGate, IsBinaryGate, AreGroups, IsDifference}
 use Rattle.pg_aiger_reader.specs.Mirrors.Items.{only_number, latch_of, latch_line, gate_of, three_numbers}
@@ -16,7 +16,7 @@ Line = List ℕ × List ℕ
 
 -- ---- inputs and outputs
 
-pub input_found : (form : Form) (v : ℕ) (bytes : List ℕ) (x : ℕ × List ℕ) → input_at form v bytes ≡ Some x → IsInput form v bytes x.0 x.1
+pub input_found : (form : AigerFormat) (v : ℕ) (bytes : List ℕ) (x : ℕ × List ℕ) → input_at form v bytes ≡ Some x → IsInput form v bytes x.0 x.1
 unfolding input_at literal_at
 input_found Binary v bytes x e = subst (λ (y : ℕ × List ℕ). (y.0 ≡ 2 * v) × (bytes ≡ y.1)) (some_is (2 * v, bytes) x e) (refl, refl)
 input_found Ascii v bytes x e = of_line (line_at 1 bytes) refl e
@@ -28,18 +28,18 @@ input_found Ascii v bytes x e = of_line (line_at 1 bytes) refl e
         subst (λ (y : ℕ × List ℕ). BeginsLine bytes (y.0 ∷ []) y.1) (some_is (n, rest) x e) (line_found 1 bytes (n ∷ [], rest) same).1
     of_line (Some (n ∷ m ∷ ns, rest)) same e = absurd (none_is_some x e)
 
-pub input_only : (form : Form) (v : ℕ) (bytes : List ℕ) (n : ℕ) (rest : List ℕ) → IsInput form v bytes n rest → input_at form v bytes ≡ Some (n, rest)
+pub input_only : (form : AigerFormat) (v : ℕ) (bytes : List ℕ) (n : ℕ) (rest : List ℕ) → IsInput form v bytes n rest → input_at form v bytes ≡ Some (n, rest)
 unfolding input_at literal_at
 input_only Binary v bytes n rest is = rw (is.0, is.1) refl
 input_only Ascii v bytes n rest is = rw (line_only 1 bytes n [] rest is (omega arith)) refl
 
 -- ---- latches
 
-pub latch_found : (form : Form) (v : ℕ) (bytes : List ℕ) (x : LatchLine × List ℕ) → latch_at form v bytes ≡ Some x → IsLatch form v bytes x.0 x.1
+pub latch_found : (form : AigerFormat) (v : ℕ) (bytes : List ℕ) (x : LatchLine × List ℕ) → latch_at form v bytes ≡ Some x → IsLatch form v bytes x.0 x.1
 unfolding latch_at
 latch_found form v bytes x e = of_line form (line_at 3 bytes) refl e
   where
-    of_line : (form : Form) (read : Option Line) → line_at 3 bytes ≡ read → (read >>= λ y. latch_of form v y.0 >>= λ l. Some (l, y.1)) ≡ Some x
+    of_line : (form : AigerFormat) (read : Option Line) → line_at 3 bytes ≡ read → (read >>= λ y. latch_of form v y.0 >>= λ l. Some (l, y.1)) ≡ Some x
         → IsLatch form v bytes x.0 x.1
     of_line form None same e = absurd (none_is_some x e)
     of_line Ascii (Some ([], rest)) same e = absurd (none_is_some x e)
@@ -60,7 +60,7 @@ latch_found form v bytes x e = of_line form (line_at 3 bytes) refl e
         (c ∷ [], inr refl, (line_found 3 bytes (b ∷ c ∷ [], rest) same).1, refl)
     of_line Binary (Some (b ∷ c ∷ d ∷ ns, rest)) same e = absurd (none_is_some x e)
 
-pub latch_only : (form : Form) (v : ℕ) (bytes : List ℕ) (l : LatchLine) (rest : List ℕ) → IsLatch form v bytes l rest → latch_at form v bytes ≡ Some (l, rest)
+pub latch_only : (form : AigerFormat) (v : ℕ) (bytes : List ℕ) (l : LatchLine) (rest : List ℕ) → IsLatch form v bytes l rest → latch_at form v bytes ≡ Some (l, rest)
 unfolding latch_at
 latch_only Ascii v bytes l rest (ns, inl h, line) =
     let shape : BeginsLine bytes (l.literal ∷ l.next ∷ []) rest = subst (λ ms. BeginsLine bytes (l.literal ∷ l.next ∷ ms) rest) h.0 line in
@@ -253,12 +253,12 @@ binary_gate_only v bytes g rest is =
     rw (is.parts, first, some_below, within, second, within')
     (ap (λ h. some (h, rest)) (same_gate g (2 * v) (2 * v - d) (2 * v - d - d') own (omega arith) (omega arith)))
 
-pub gate_found : (form : Form) (v : ℕ) (bytes : List ℕ) (x : Gate × List ℕ) → gate_at form v bytes ≡ Some x → IsGate form v bytes x.0 x.1
+pub gate_found : (form : AigerFormat) (v : ℕ) (bytes : List ℕ) (x : Gate × List ℕ) → gate_at form v bytes ≡ Some x → IsGate form v bytes x.0 x.1
 unfolding gate_at
 gate_found Ascii v bytes x e = ascii_gate_found v bytes x e
 gate_found Binary v bytes x e = binary_gate_found v bytes x e
 
-pub gate_only : (form : Form) (v : ℕ) (bytes : List ℕ) (g : Gate) (rest : List ℕ) → IsGate form v bytes g rest → gate_at form v bytes ≡ Some (g, rest)
+pub gate_only : (form : AigerFormat) (v : ℕ) (bytes : List ℕ) (g : Gate) (rest : List ℕ) → IsGate form v bytes g rest → gate_at form v bytes ≡ Some (g, rest)
 unfolding gate_at
 gate_only Ascii v bytes g rest is = ascii_gate_only v bytes g rest is
 gate_only Binary v bytes g rest is = binary_gate_only v bytes g rest is

@@ -5,8 +5,8 @@ use Rattle.pg_aiger_reader.proofs.Common.{cases_Bool, and_parts, bytes_eq-Decide
 use Rattle.pg_aiger.specs.CircuitText.{Kind, input, latch, output, Symbol}
 use Rattle.pg_aiger_reader.specs.Ties.{Gives, IsNamed}
 use Rattle.pg_aiger_reader.specs.Mirrors.Places.{is_kind, also, noted, IsPlaceOf}
-use Rattle.pg_aiger_reader.specs.declared.ties.Place.{Place}
-use Rattle.pg_aiger_reader.specs.declared.ties.Place.TheVariants.{Missing, At, Twice}
+use Rattle.pg_aiger_reader.specs.declared.ties.SymbolPlace.{SymbolPlace}
+use Rattle.pg_aiger_reader.specs.declared.ties.SymbolPlace.TheVariants.{Missing, At, Twice}
 
 pub kind_is : (k l : Kind) → is_kind k l ≡ true → k ≡ l
 kind_is input input e = refl
@@ -65,7 +65,7 @@ named_cases kind count before s name place (t, there, gives) =
     ]
 
 -- it gives another name
-seen_other : (kind : Kind) (count : ℕ) (before : List Symbol) (s : Symbol) (name : List ℕ) (found : Place)
+seen_other : (kind : Kind) (count : ℕ) (before : List Symbol) (s : Symbol) (name : List ℕ) (found : SymbolPlace)
     → ((place : ℕ) → ¬ Gives kind count name place s) → IsPlaceOf kind count before name found → IsPlaceOf kind count (before ++ s ∷ []) name found
 seen_other kind count before s name Missing none seen = λ place is.
     elim (named_cases kind count before s name place is) [ inl h ↦ seen place h | inr h ↦ none place h ]
@@ -77,7 +77,7 @@ seen_other kind count before s name Twice none (p, q, apart, first, second) =
     (p, q, apart, named_more kind count before s name p first, named_more kind count before s name q second)
 
 -- it gives the name
-seen_this : (kind : Kind) (count : ℕ) (before : List Symbol) (s : Symbol) (name : List ℕ) (found : Place)
+seen_this : (kind : Kind) (count : ℕ) (before : List Symbol) (s : Symbol) (name : List ℕ) (found : SymbolPlace)
     → Gives kind count name s.position s → IsPlaceOf kind count before name found → IsPlaceOf kind count (before ++ s ∷ []) name (also found s.position)
 seen_this kind count before s name Missing gives seen = (
   named_last kind count before s name s.position gives,
@@ -102,7 +102,7 @@ seen_this kind count before s name (At p) gives seen =
 seen_this kind count before s name Twice gives (p, q, apart, first, second) =
     (p, q, apart, named_more kind count before s name p first, named_more kind count before s name q second)
 
-pub seen_more : (kind : Kind) (count : ℕ) (before : List Symbol) (s : Symbol) (name : List ℕ) (found : Place)
+pub seen_more : (kind : Kind) (count : ℕ) (before : List Symbol) (s : Symbol) (name : List ℕ) (found : SymbolPlace)
     → IsPlaceOf kind count before name found → IsPlaceOf kind count (before ++ s ∷ []) name (noted found kind count name s)
 seen_more kind count before s name found seen =
     elim (cases_Bool (test kind count name s)) [

@@ -11,8 +11,8 @@ use Rattle.pg_aiger_reader.proofs.SymbolLaws.{symbols_found, all_symbols_only}
 use Rattle.pg_aiger_reader.proofs.HeaderLaws.{IsHeader, IsRefusedHeader, fault_found, fault_only, header_found, header_only, header_unnamed}
 use Rattle.pg_aiger.specs.declared.gate.Latch.{Latch}
 use Rattle.pg_aiger_reader.specs.declared.header.Header.{Header}
-use Rattle.pg_aiger_reader.specs.declared.item.Form.{Form}
-use Rattle.pg_aiger_reader.specs.declared.item.Form.TheVariants.{Ascii, Binary}
+use Rattle.pg_aiger_reader.specs.declared.item.AigerFormat.{AigerFormat}
+use Rattle.pg_aiger_reader.specs.declared.item.AigerFormat.TheVariants.{Ascii, Binary}
 use Rattle.pg_aiger_reader.specs.declared.item.LatchLine.{LatchLine}
 use Rattle.pg_aiger_reader.specs.declared.fault.ReaderFault.{ReaderFault}
 use Rattle.pg_aiger_reader.specs.declared.fault.ReaderFault.TheVariants as faults
@@ -49,7 +49,7 @@ verdict_found bytes =
       ]
     ]
 
-verdict_only : (form : Form) (text bytes : List ℕ) → HasBody bytes (form_text form ++ text) → behind_verdict bytes ≡ form_text form ++ text
+verdict_only : (form : AigerFormat) (text bytes : List ℕ) → HasBody bytes (form_text form ++ text) → behind_verdict bytes ≡ form_text form ++ text
 verdict_only Ascii text bytes (inl e) = rw e refl
 verdict_only Binary text bytes (inl e) = rw e refl
 verdict_only form text bytes (inr (inl e)) = rw e refl
@@ -106,13 +106,13 @@ sections_found h bytes x e =
     })
 
 -- the header of a text
-head_of : Form → Circuit → Header
+head_of : AigerFormat → Circuit → Header
 head_of form c = head form c.greatest (length c.inputs) (length c.latches) (length c.outputs) (length c.gates)
 
 parts_in_text : Circuit → List LatchLine → Parts
 parts_in_text c lines = parts_of c.inputs lines c.outputs c.gates
 
-sections_only : (form : Form) (bytes : List ℕ) (c : Circuit) (lines : List LatchLine) (rest : List ℕ) (t : IsBody form bytes c lines rest)
+sections_only : (form : AigerFormat) (bytes : List ℕ) (c : Circuit) (lines : List LatchLine) (rest : List ℕ) (t : IsBody form bytes c lines rest)
     → sections_at (head_of form c) t.behind_header ≡ Some (parts_in_text c lines, rest)
 unfolding sections_at head_of parts_in_text
 sections_only form bytes c lines rest t =
@@ -123,7 +123,7 @@ sections_only form bytes c lines rest t =
     let gates = many_only (IsGate form) (gate_at form) (gate_only form) c.gates (1 + length c.inputs + length c.latches) t.behind_outputs rest t.gates in
     rw (inputs, ap (λ n. many_at (latch_at form) n (1 + length c.inputs) t.behind_inputs) count ∙ latches, outputs, gates) refl
 
-header_of_body : (form : Form) (bytes : List ℕ) (c : Circuit) (lines : List LatchLine) (rest : List ℕ) (t : IsBody form bytes c lines rest)
+header_of_body : (form : AigerFormat) (bytes : List ℕ) (c : Circuit) (lines : List LatchLine) (rest : List ℕ) (t : IsBody form bytes c lines rest)
     → IsHeader bytes (head_of form c) t.behind_header
 unfolding head_of
 header_of_body form bytes c lines rest t = record {
@@ -214,7 +214,7 @@ same_latches : (c : Circuit) (latches : List Latch) → c.latches ≡ latches
     → circuit_of c.greatest (parts_of c.inputs [] c.outputs c.gates) latches ≡ c
 same_latches c latches e = ap (λ ls. circuit_of c.greatest (parts_of c.inputs [] c.outputs c.gates) ls) (sym e)
 
-behind_is : (form : Form) (text body bytes : List ℕ) → HasBody bytes body → body ≡ form_text form ++ text → behind_verdict bytes ≡ body
+behind_is : (form : AigerFormat) (text body bytes : List ℕ) → HasBody bytes body → body ≡ form_text form ++ text → behind_verdict bytes ≡ body
 behind_is form text body bytes whole begins =
     verdict_only form text bytes (same_body bytes body (form_text form ++ text) begins whole) ∙ sym begins
 
@@ -317,7 +317,7 @@ unfolding text_fault
 only_header bytes fault is = rw (fault_only (behind_verdict bytes) fault (header_right bytes fault is)) refl
 
 -- where all is good up to the symbols, the latches say what is wrong
-only_latches : (bytes : List ℕ) (form : Form) (body : List ℕ) (c : Circuit) (lines : List LatchLine) (rest : List ℕ) → HasBody bytes body
+only_latches : (bytes : List ℕ) (form : AigerFormat) (body : List ℕ) (c : Circuit) (lines : List LatchLine) (rest : List ℕ) → HasBody bytes body
     → IsBody form body c lines rest → text_fault bytes ≡ reset_fault 0 lines
 unfolding text_fault head_of parts_in_text
 only_latches bytes form body c lines rest whole t =

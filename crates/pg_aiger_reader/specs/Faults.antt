@@ -6,7 +6,7 @@ use Rattle.pg_aiger_reader.specs.declared.fault.Section.{Section}
 use Rattle.pg_aiger_reader.specs.declared.fault.Section.TheVariants.{BadStates, Constraints, Justice, Fairness}
 use Rattle.pg_aiger_reader.specs.declared.fault.ReaderFault.{ReaderFault}
 use Rattle.pg_aiger_reader.specs.declared.fault.ReaderFault.TheVariants.{OutOfMemory, Syntax, NumberTooLarge, TooLarge, LeftOut, Reset}
-use Rattle.pg_aiger_reader.specs.declared.item.Form.{Form}
+use Rattle.pg_aiger_reader.specs.declared.item.AigerFormat.{AigerFormat}
 use Rattle.pg_aiger_reader.specs.declared.item.LatchLine.{LatchLine}
 use Rattle.pg_aiger_reader.specs.Texts.{BeginsLine, form_text, HasBody, IsBody, SpellsNone}
 
@@ -26,7 +26,7 @@ IsHeaderFault m o counts _ = ⊥
 
 -- The bytes begin with a header, perhaps after a line `REALIZABLE` or `UNREALIZABLE`, that is refused with this fault.
 pub record HasHeaderFault (bytes : List ℕ) (fault : ReaderFault) : Type 0 where
-  pub form : Form
+  pub form : AigerFormat
   pub text : List ℕ
   pub rest : List ℕ
   pub m : ℕ
@@ -48,7 +48,7 @@ IsFirstReset (l ∷ lines) (suc place) = (l.reset ≡ 0) × IsFirstReset lines p
 
 -- The bytes begin as a circuit's do, up to the symbols, except that the latch at this place is the first that doesn't start at 0.
 pub record HasReset (bytes : List ℕ) (place : ℕ) : Type 0 where
-  pub form : Form
+  pub form : AigerFormat
   pub body : List ℕ
   pub circuit : Circuit
   pub lines : List LatchLine

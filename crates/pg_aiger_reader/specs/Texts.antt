@@ -2,8 +2,8 @@
 use Rattle.std.specs.Prelude.{◌≡◌, ◌⊎◌, ℕ, suc, ◌+◌, ◌-◌, ◌*◌, ◌^◌, ◌<◌, ◌≤◌, List, [], ◌∷◌, ◌++◌, length, map, codes}
 use Rattle.std.specs.List.{AllByRecursion}
 use Rattle.pg_aiger.specs.declared.gate.Gate.{Gate}
-use Rattle.pg_aiger_reader.specs.declared.item.Form.{Form}
-use Rattle.pg_aiger_reader.specs.declared.item.Form.TheVariants.{Ascii, Binary}
+use Rattle.pg_aiger_reader.specs.declared.item.AigerFormat.{AigerFormat}
+use Rattle.pg_aiger_reader.specs.declared.item.AigerFormat.TheVariants.{Ascii, Binary}
 use Rattle.pg_aiger_reader.specs.declared.item.LatchLine.{LatchLine}
 use Rattle.pg_aiger.specs.Circuits.{Circuit}
 use Rattle.pg_aiger.specs.declared.gate.Latch.{Latch}
@@ -20,7 +20,7 @@ AreItems IsItem variable bytes [] rest = bytes ≡ rest
 AreItems IsItem variable bytes (x ∷ xs) rest = (middle : List ℕ) × IsItem variable bytes x middle × AreItems IsItem (suc variable) middle xs rest
 
 -- a line with its literal; in the binary form nothing, since an input's literal is twice the variable
-abbrev pub IsInput : Form → ℕ → List ℕ → ℕ → List ℕ → Type 0
+abbrev pub IsInput : AigerFormat → ℕ → List ℕ → ℕ → List ℕ → Type 0
 IsInput Ascii variable bytes literal rest = BeginsLine bytes (literal ∷ []) rest
 IsInput Binary variable bytes literal rest = (literal ≡ 2 * variable) × (bytes ≡ rest)
 
@@ -33,7 +33,7 @@ abbrev pub IsReset : ℕ → List ℕ → Type 0
 IsReset reset ns = ((ns ≡ []) × (reset ≡ 0)) ⊎ (ns ≡ reset ∷ [])
 
 -- a line with its literal, which the binary form leaves out, its next literal, and perhaps its initial value
-abbrev pub IsLatch : Form → ℕ → List ℕ → LatchLine → List ℕ → Type 0
+abbrev pub IsLatch : AigerFormat → ℕ → List ℕ → LatchLine → List ℕ → Type 0
 IsLatch Ascii variable bytes l rest = (reset : List ℕ) × IsReset l.reset reset × BeginsLine bytes (l.literal ∷ l.next ∷ reset) rest
 IsLatch Binary variable bytes l rest =
     (reset : List ℕ) × IsReset l.reset reset × BeginsLine bytes (l.next ∷ reset) rest × (l.literal ≡ 2 * variable)
@@ -62,7 +62,7 @@ pub record IsBinaryGate (variable : ℕ) (bytes : List ℕ) (gate : Gate) (rest 
   pub differ_again : IsDifference second (gate.rhs0 - gate.rhs1)
 
 -- a line of three literals; in the binary form bytes without a line
-abbrev pub IsGate : Form → ℕ → List ℕ → Gate → List ℕ → Type 0
+abbrev pub IsGate : AigerFormat → ℕ → List ℕ → Gate → List ℕ → Type 0
 IsGate Ascii variable bytes gate rest = BeginsLine bytes (gate.lhs ∷ gate.rhs0 ∷ gate.rhs1 ∷ []) rest
 IsGate Binary variable bytes gate rest = IsBinaryGate variable bytes gate rest
 
@@ -74,12 +74,12 @@ IsSymbol circuit _ bytes s rest = Begins bytes (symbol s) rest × (s.position < 
 abbrev pub IsComment : List ℕ → Type 0
 IsComment bytes = (bytes ≡ []) ⊎ ((rest : List ℕ) × (bytes ≡ codes "c\n" ++ rest))
 
-abbrev pub form_text : Form → List ℕ
+abbrev pub form_text : AigerFormat → List ℕ
 form_text Ascii = codes "aag "
 form_text Binary = codes "aig "
 
 -- In the binary form there are no variables but those of inputs, latches and gates; in the ASCII form there may be more.
-abbrev pub AreVariables : Form → ℕ → ℕ → Type 0
+abbrev pub AreVariables : AigerFormat → ℕ → ℕ → Type 0
 AreVariables Ascii defined greatest = defined ≤ greatest
 AreVariables Binary defined greatest = defined ≡ greatest
 
@@ -89,7 +89,7 @@ latch_in l = record { literal = l.literal; next = l.next }
 
 -- The bytes begin with a header `M I L O A`, perhaps with B, C, J and F after it, all 0; inputs, latches, outputs and gates follow. The
 -- initial values of latches can be any.
-pub record IsBody (form : Form) (bytes : List ℕ) (circuit : Circuit) (lines : List LatchLine) (behind_gates : List ℕ) : Type 0 where
+pub record IsBody (form : AigerFormat) (bytes : List ℕ) (circuit : Circuit) (lines : List LatchLine) (behind_gates : List ℕ) : Type 0 where
   pub text : List ℕ
   pub zeros : List ℕ
   pub behind_header : List ℕ
@@ -111,7 +111,7 @@ pub record IsBody (form : Form) (bytes : List ℕ) (circuit : Circuit) (lines : 
   pub few_outputs : length circuit.outputs ≤ 16777216
 
 -- The bytes spell the circuit and the symbols: after the gates come symbols, and perhaps a comment. All latches are 0 at first.
-pub record IsText (form : Form) (bytes : List ℕ) (circuit : Circuit) (symbols : List Symbol) : Type 0 where
+pub record IsText (form : AigerFormat) (bytes : List ℕ) (circuit : Circuit) (symbols : List Symbol) : Type 0 where
   pub lines : List LatchLine
   pub behind_gates : List ℕ
   pub comment : List ℕ
@@ -126,7 +126,7 @@ HasBody bytes body = (bytes ≡ body) ⊎ ((bytes ≡ codes "REALIZABLE\n" ++ bo
 
 -- The bytes spell the circuit and the symbols, perhaps after a line `REALIZABLE` or `UNREALIZABLE`.
 pub record IsRead (bytes : List ℕ) (circuit : Circuit) (symbols : List Symbol) : Type 0 where
-  pub form : Form
+  pub form : AigerFormat
   pub body : List ℕ
   pub whole : HasBody bytes body
   pub text : IsText form body circuit symbols

@@ -5,7 +5,7 @@ ghost use Rattle.pg_aiger_reader.specs.Mirrors.Steps.{GivesAs};
 ghost use Rattle.pg_aiger_reader.specs.Mirrors.Headers.{IsSmall, form_at, left_out, fits, header_of, header_at, header_fault, fault_at};
 
 use crate::fault::{ReaderFault, Section};
-use crate::item::Form;
+use crate::item::AigerFormat;
 use crate::number::line;
 use std::alloc::Global;
 
@@ -15,7 +15,7 @@ const MOST: u32 = 16_777_216;
 /// The form of a circuit's text, the greatest variable, and the counts of its parts.
 #[derive(Clone, Copy, Debug)]
 pub(crate) struct Header {
-    pub form: Form,
+    pub form: AigerFormat,
     pub greatest: u32,
     pub inputs: u32,
     pub latches: u32,
@@ -24,12 +24,12 @@ pub(crate) struct Header {
 }
 
 /// Returns the form by its letters at the start, and the rest of the text.
-fn form(bytes: &[u8]) -> Option<(Form, &[u8])>
+fn form(bytes: &[u8]) -> Option<(AigerFormat, &[u8])>
     ensures { option_map (λ x. (x.0, x.1.now)) result ≡ form_at bytes.now }
 {
     match bytes {
-        [b'a', b'a', b'g', b' ', rest @ ..] => Some((Form::Ascii, rest)),
-        [b'a', b'i', b'g', b' ', rest @ ..] => Some((Form::Binary, rest)),
+        [b'a', b'a', b'g', b' ', rest @ ..] => Some((AigerFormat::Ascii, rest)),
+        [b'a', b'i', b'g', b' ', rest @ ..] => Some((AigerFormat::Binary, rest)),
         _ => None,
     }
 }
@@ -48,19 +48,19 @@ fn left_out(counts: &[u32]) -> Option<Section>
 }
 
 /// Whether there are enough variables for inputs, latches and gates; in the binary form, exactly as many.
-fn fits(form: Form, greatest: u32, inputs: u32, latches: u32, gates: u32) -> bool
+fn fits(form: AigerFormat, greatest: u32, inputs: u32, latches: u32, gates: u32) -> bool
     ensures { result ≡ fits form greatest inputs latches gates }
 {
     let defined = u64::from(inputs) + u64::from(latches) + u64::from(gates);
     match form {
-        Form::Ascii => defined <= u64::from(greatest),
-        Form::Binary => defined == u64::from(greatest),
+        AigerFormat::Ascii => defined <= u64::from(greatest),
+        AigerFormat::Binary => defined == u64::from(greatest),
     }
 }
 
 /// Returns the header with the numbers of the first line. A syntax fault has the offset `left`, which counts from the end.
 #[tactic(auto, unfolding(crate::specs::Mirrors::Headers::header_of, crate::specs::Mirrors::Headers::header_fault))]
-fn header_of(form: Form, numbers: &[u32], left: usize) -> Result<Header, ReaderFault>
+fn header_of(form: AigerFormat, numbers: &[u32], left: usize) -> Result<Header, ReaderFault>
     ensures read { GivesAs (λ x. x) (header_fault numbers.now) result (header_of form numbers.now) }
     ensures small { IfOk result IsSmall }
 {

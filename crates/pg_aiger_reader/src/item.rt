@@ -10,7 +10,7 @@ use pg_aiger::Gate;
 
 /// The form of a circuit's text.
 #[derive(Clone, Copy, Debug, PartialEq, Eq)]
-pub(crate) enum Form {
+pub(crate) enum AigerFormat {
     Ascii,
     Binary,
 }
@@ -38,7 +38,7 @@ fn literal<'a>(numbers: &mut Vec<u32>, bytes: &'a [u8]) -> Result<(u32, &'a [u8]
 /// Reads the literal of an input or an output. In the binary form an input's literal isn't written: it is twice `variable`.
 #[tactic(auto, unfolding(crate::specs::Mirrors::Items::input_at))]
 pub(crate) fn input<'a>(
-    form: Form,
+    form: AigerFormat,
     variable: u32,
     numbers: &mut Vec<u32>,
     bytes: &'a [u8],
@@ -47,21 +47,21 @@ pub(crate) fn input<'a>(
     ensures { Gives (λ x. (x.0, x.1.now)) result (input_at form variable bytes.now) }
 {
     match form {
-        Form::Ascii => literal(numbers, bytes),
-        Form::Binary => Ok((2 * variable, bytes)),
+        AigerFormat::Ascii => literal(numbers, bytes),
+        AigerFormat::Binary => Ok((2 * variable, bytes)),
     }
 }
 
 /// Returns the latch whose line has these numbers, if there is one.
-fn latch_of(form: Form, variable: u32, numbers: &[u32]) -> Option<LatchLine>
+fn latch_of(form: AigerFormat, variable: u32, numbers: &[u32]) -> Option<LatchLine>
     requires { variable < 2 ^ 31 }
     ensures { result ≡ latch_of form variable numbers.now }
 {
     let (literal, next, reset) = match (form, numbers) {
-        (Form::Ascii, [literal, next]) => (*literal, *next, 0),
-        (Form::Ascii, [literal, next, reset]) => (*literal, *next, *reset),
-        (Form::Binary, [next]) => (2 * variable, *next, 0),
-        (Form::Binary, [next, reset]) => (2 * variable, *next, *reset),
+        (AigerFormat::Ascii, [literal, next]) => (*literal, *next, 0),
+        (AigerFormat::Ascii, [literal, next, reset]) => (*literal, *next, *reset),
+        (AigerFormat::Binary, [next]) => (2 * variable, *next, 0),
+        (AigerFormat::Binary, [next, reset]) => (2 * variable, *next, *reset),
         _ => return None,
     };
     Some(LatchLine {
@@ -74,7 +74,7 @@ fn latch_of(form: Form, variable: u32, numbers: &[u32]) -> Option<LatchLine>
 /// Reads a latch. In the binary form its literal isn't written: it is twice `variable`.
 #[tactic(auto, unfolding(crate::specs::Mirrors::Items::latch_at))]
 pub(crate) fn latch<'a>(
-    form: Form,
+    form: AigerFormat,
     variable: u32,
     numbers: &mut Vec<u32>,
     bytes: &'a [u8],
@@ -161,7 +161,7 @@ fn binary_gate(variable: u32, bytes: &[u8]) -> Result<(Gate, &[u8]), ReaderFault
 /// Reads a gate.
 #[tactic(auto, unfolding(crate::specs::Mirrors::Items::gate_at))]
 pub(crate) fn gate<'a>(
-    form: Form,
+    form: AigerFormat,
     variable: u32,
     numbers: &mut Vec<u32>,
     bytes: &'a [u8],
@@ -170,7 +170,7 @@ pub(crate) fn gate<'a>(
     ensures { Gives (λ x. (x.0, x.1.now)) result (gate_at form variable bytes.now) }
 {
     match form {
-        Form::Ascii => ascii_gate(numbers, bytes),
-        Form::Binary => binary_gate(variable, bytes),
+        AigerFormat::Ascii => ascii_gate(numbers, bytes),
+        AigerFormat::Binary => binary_gate(variable, bytes),
     }
 }

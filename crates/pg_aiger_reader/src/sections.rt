@@ -8,7 +8,7 @@ ghost use Rattle.pg_aiger_reader.specs.Mirrors.Sections.{many_at, sections_at, s
 
 use crate::fault::ReaderFault;
 use crate::header::Header;
-use crate::item::{Form, LatchLine, gate, input, latch};
+use crate::item::{AigerFormat, LatchLine, gate, input, latch};
 use pg_aiger::Gate;
 use std::alloc::Global;
 
@@ -24,7 +24,7 @@ pub(crate) struct Sections {
 /// Reads `count` inputs or outputs. Returns them and the rest of the text.
 fn literals(
     alloc: Global,
-    form: Form,
+    form: AigerFormat,
     count: u32,
     bytes: &[u8],
 ) -> Result<(Vec<u32>, &[u8]), ReaderFault>
@@ -45,7 +45,7 @@ fn literals(
 /// Reads `count` latches; in the binary form the first one's variable is `first`. Returns them and the rest of the text.
 fn latches(
     alloc: Global,
-    form: Form,
+    form: AigerFormat,
     first: u32,
     count: u32,
     bytes: &[u8],
@@ -67,7 +67,7 @@ fn latches(
 /// Reads `count` gates; in the binary form the first one's variable is `first`. Returns them and the rest of the text.
 fn gates(
     alloc: Global,
-    form: Form,
+    form: AigerFormat,
     first: u32,
     count: u32,
     bytes: &[u8],
@@ -99,7 +99,7 @@ pub(crate) fn read_sections<'a>(
     let (inputs, rest) = literals(alloc, header.form, header.inputs, bytes)?;
     let first = 1 + header.inputs;
     let (latches, rest) = latches(alloc, header.form, first, header.latches, rest)?;
-    let (outputs, rest) = literals(alloc, Form::Ascii, header.outputs, rest)?;
+    let (outputs, rest) = literals(alloc, AigerFormat::Ascii, header.outputs, rest)?;
     let first = first + header.latches;
     let (gates, rest) = gates(alloc, header.form, first, header.gates, rest)?;
     Ok((

@@ -19,7 +19,7 @@ use std::alloc::{AllocError, Global};
 
 /// The place to which symbols give a name.
 #[derive(Clone, Copy, Debug)]
-pub(crate) enum Place {
+pub(crate) enum SymbolPlace {
     Missing,
     At(usize),
     Twice,
@@ -37,7 +37,13 @@ fn is_kind(one: SymbolKind, other: SymbolKind) -> bool
 }
 
 /// Returns the place of a name, after one more symbol.
-fn noted(found: Place, kind: SymbolKind, count: usize, name: &[u8], symbol: &Symbol<'_>) -> Place
+fn noted(
+    found: SymbolPlace,
+    kind: SymbolKind,
+    count: usize,
+    name: &[u8],
+    symbol: &Symbol<'_>,
+) -> SymbolPlace
     ensures { result ≡ noted found (kind_in kind) count name.now (symbol_in symbol.now) }
 {
     let position = symbol.position as usize;
@@ -45,17 +51,17 @@ fn noted(found: Place, kind: SymbolKind, count: usize, name: &[u8], symbol: &Sym
         return found;
     }
     match found {
-        Place::Missing => Place::At(position),
-        Place::At(place) if place == position => found,
-        _ => Place::Twice,
+        SymbolPlace::Missing => SymbolPlace::At(position),
+        SymbolPlace::At(place) if place == position => found,
+        _ => SymbolPlace::Twice,
     }
 }
 
 /// Returns the place to which the symbols of a kind give a name, among the first `count` positions.
-fn place_of(kind: SymbolKind, count: usize, symbols: &[Symbol<'_>], name: &[u8]) -> Place
+fn place_of(kind: SymbolKind, count: usize, symbols: &[Symbol<'_>], name: &[u8]) -> SymbolPlace
     ensures { IsPlaceOf (kind_in kind) count (map symbol_in symbols.now) name.now result }
 {
-    let mut found = Place::Missing;
+    let mut found = SymbolPlace::Missing;
     for i in 0..symbols.len() {
         found = noted(found, kind, count, name, &symbols[i]);
     }
@@ -86,9 +92,9 @@ fn places_of(
     let mut places = Vec::new(alloc);
     for k in 0..names.len() {
         match place_of(kind, count, symbols, names[k]) {
-            Place::Missing => return Ok(Err(SideFault::Missing(Name::of(alloc, names[k])?))),
-            Place::Twice => return Ok(Err(SideFault::Twice(Name::of(alloc, names[k])?))),
-            Place::At(place) => {
+            SymbolPlace::Missing => return Ok(Err(SideFault::Missing(Name::of(alloc, names[k])?))),
+            SymbolPlace::Twice => return Ok(Err(SideFault::Twice(Name::of(alloc, names[k])?))),
+            SymbolPlace::At(place) => {
                 if let Some(j) = position_of(&places, place) {
                     let one = Name::of(alloc, names[j])?;
                     let other = Name::of(alloc, names[k])?;

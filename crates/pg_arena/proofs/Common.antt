@@ -51,4 +51,4 @@ pub use Rattle.pg_arena.specs.declared.fault.ArenaFault.{ArenaFault}
 pub use Rattle.pg_arena.specs.declared.fault.ArenaFault.TheVariants.{NoVertex, OutOfMemory, UnknownSuccessor}
 pub use Rattle.pg_arena.specs.declared.game.Shared.{Shared}
 pub use Rattle.pg_arena.specs.declared.player.Player.{Player}
-pub use Rattle.pg_arena.specs.declared.rows.Key.{Key}
+pub use Rattle.pg_arena.specs.declared.sorted_lines.Key.{Key}

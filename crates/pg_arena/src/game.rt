@@ -10,7 +10,7 @@ use crate::fault::ArenaFault;
 use crate::limits::MAX_PRIORITY;
 use crate::place::{identifier_at, place_of};
 use crate::player::Player;
-use crate::rows::{SortedLines, place_at};
+use crate::sorted_lines::{SortedLines, place_at};
 use crate::vertex::Vertex;
 use std::alloc::{AllocError, Global};
 use std::marker::Model;

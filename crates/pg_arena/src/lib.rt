@@ -11,7 +11,7 @@ mod lines;
 mod link;
 mod place;
 mod player;
-mod rows;
+mod sorted_lines;
 mod vertex;
 
 pub use builder::GameBuilder;

@@ -13,7 +13,7 @@ use crate::identifiers::Identifiers;
 use crate::limits::{MAX_EDGES, MAX_PRIORITY, MAX_VERTICES};
 use crate::link::{first_unknown, link};
 use crate::player::Player;
-use crate::rows::rows_by_identifier;
+use crate::sorted_lines::rows_by_identifier;
 use crate::vertex::Vertex;
 use std::alloc::{AllocError, Global};
 use std::marker::Model;

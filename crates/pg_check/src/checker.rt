@@ -12,7 +12,7 @@ use crate::cycle::{cycle_through, is_lost};
 use crate::edges::first_leaving;
 use crate::fault::CheckFault;
 use crate::order::is_order;
-use crate::proposal::{Proposal, propose};
+use crate::proposal::{CycleProposal, propose};
 use crate::verdict::Verdict;
 use pg_arena::{Game, Vertex};
 use pg_text::Solution;
@@ -71,12 +71,12 @@ fn bad_cycle(
 {
     let count = game.len();
     match propose(alloc, game, solution)? {
-        Proposal::Order(order) => {
+        CycleProposal::Order(order) => {
             if is_order(game, solution, &order) {
                 return Ok(None);
             }
         }
-        Proposal::Suspect(v) => {
+        CycleProposal::Suspect(v) => {
             if (v.0 as usize) < count
                 && let Some(cycle) = bad_cycle_through(alloc, game, solution, v)?
             {

@@ -26,7 +26,7 @@ const LIFTS: u32 = 4_096;
 const MOST_VERTICES: usize = 256;
 
 /// The most rounds that are made over workers in this process, and the most lifts that one of them makes in each.
-const FEW: Limit = Limit {
+const FEW: TurnLimit = TurnLimit {
     rounds: 8,
     lifts: 256,
 };
@@ -38,7 +38,7 @@ const VERTICES_A_ROUND: u64 = 512;
 
 /// The most rounds that are made before a game is solved in one piece, and the most lifts that a worker makes in each.
 #[derive(Clone, Copy)]
-struct Limit {
+struct TurnLimit {
     rounds: u64,
     lifts: u32,
 }
@@ -64,13 +64,13 @@ fn fit_workers(alloc: Global, game: &Game) -> Result<bool, AllocError> {
 
 impl Rounds {
     /// Returns the limits for a game that is shared among `links` links, or None if the game isn't shared.
-    fn of(self, alloc: Global, game: &Game, links: usize) -> Result<Option<Limit>, AllocError> {
+    fn of(self, alloc: Global, game: &Game, links: usize) -> Result<Option<TurnLimit>, AllocError> {
         match self {
             _ if links == 0 => Ok(None),
             Rounds::Few => Ok((game.len() <= MOST_VERTICES).then_some(FEW)),
             Rounds::BySize | Rounds::Any => {
                 let by_size = game.len() as u64 / VERTICES_A_ROUND;
-                let limit = Limit {
+                let limit = TurnLimit {
                     rounds: FIRST_ROUNDS.saturating_add(by_size),
                     lifts: LIFTS,
                 };
@@ -185,7 +185,7 @@ fn measure_within<L: Link>(
     alloc: Global,
     game: &Game,
     links: &mut [L],
-    limit: Limit,
+    limit: TurnLimit,
 ) -> Result<Option<MeasureMap>, AllocError>
     ensures found { IfOk result (λ o. IfSome o (IsFoundIf (All L.is_honest links.old) game.now)) }
     ensures honest { All L.is_honest links.old → All L.is_honest links.new }
@@ -203,7 +203,7 @@ fn both_within<L: Link>(
     alloc: Global,
     game: &Game,
     links: &mut [L],
-    limit: Limit,
+    limit: TurnLimit,
 ) -> Result<Option<Maps<MeasureMap>>, AllocError>
     requires { HasPrioritiesUpTo 65535 game.now }
     ensures of_game { IfOk result (λ o. IfSome o (λ maps. IsFoundIf (All L.is_honest links.old) game.now maps.of_game)) }

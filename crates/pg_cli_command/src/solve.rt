@@ -17,12 +17,12 @@ use std::io::Write;
 
 /// A game and a solution of it.
 #[derive(Drop)]
-pub(crate) struct Solved {
+pub(crate) struct SolvedGame {
     game: Game,
     solution: Solution,
 }
 
-impl CommandAnswer for Solved {
+impl CommandAnswer for SolvedGame {
     ghost is_whole = { λ a. IsSolution a.game a.solution };
 
     ghost shows = { λ a output. output ≡ solution_text a.game a.solution };
@@ -37,9 +37,9 @@ pub(crate) fn solve<F: Solver>(
     alloc: Global,
     text: Vec<u8>,
     solver: &mut F,
-) -> Result<Solved, CliFault>
-    ensures whole { IfOk result ⟦<Solved as CommandAnswer>⟧.is_whole }
-    ensures answer { IfOk result (ShowsWhat (IsSolved (F.finds solver.old) text.items) ⟦<Solved as CommandAnswer>⟧.shows) }
+) -> Result<SolvedGame, CliFault>
+    ensures whole { IfOk result ⟦<SolvedGame as CommandAnswer>⟧.is_whole }
+    ensures answer { IfOk result (ShowsWhat (IsSolved (F.finds solver.old) text.items) ⟦<SolvedGame as CommandAnswer>⟧.shows) }
     ensures refused { IfErr result (Fails (RefusesSolve (F.finds solver.old) text.items)) }
 {
     let game = read_game(alloc, &text)?;
@@ -47,7 +47,7 @@ pub(crate) fn solve<F: Solver>(
     let _vertices = game.len();
     drop(text);
     let solution = solution_of(alloc, &game, solver)?;
-    Ok(Solved { game, solution })
+    Ok(SolvedGame { game, solution })
 }
 
 /// Returns a sound solution, whichever is found, of the game that a text spells. Frees the text before the work begins.
@@ -55,9 +55,9 @@ pub(crate) fn solve_any<F: Solver>(
     alloc: Global,
     text: Vec<u8>,
     solver: &mut F,
-) -> Result<Solved, CliFault>
-    ensures whole { IfOk result ⟦<Solved as CommandAnswer>⟧.is_whole }
-    ensures answer { IfOk result (ShowsWhat (IsSolvedAnyhow text.items) ⟦<Solved as CommandAnswer>⟧.shows) }
+) -> Result<SolvedGame, CliFault>
+    ensures whole { IfOk result ⟦<SolvedGame as CommandAnswer>⟧.is_whole }
+    ensures answer { IfOk result (ShowsWhat (IsSolvedAnyhow text.items) ⟦<SolvedGame as CommandAnswer>⟧.shows) }
     ensures refused { IfErr result (Fails (RefusesSolve (F.finds solver.old) text.items)) }
 {
     let game = read_game(alloc, &text)?;
@@ -65,5 +65,5 @@ pub(crate) fn solve_any<F: Solver>(
     let _vertices = game.len();
     drop(text);
     let solution = any_solution_of(alloc, &game, solver)?;
-    Ok(Solved { game, solution })
+    Ok(SolvedGame { game, solution })
 }

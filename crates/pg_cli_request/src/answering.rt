@@ -15,12 +15,12 @@ use crate::fault::Fault;
 use crate::input::{Given, read};
 use crate::named::{name_given, name_outputs};
 use crate::pair::PairCommand;
-use crate::texts::Texts;
+use crate::texts::FileTexts;
 use pg_cli::{
     CliFault, Command, Invocation, MOST_BYTES, Programs, check_texts, means_texts, replay_texts,
     verify_texts, work, write_answer,
 };
-use pg_cli_statistics::{CountedTops, Figures, Kept, Notes, Watch};
+use pg_cli_statistics::{CountedTops, Figures, Kept, Notes, Stopwatch};
 use pg_cli_words::Request;
 use pg_coord::Reach;
 use std::alloc::Global;
@@ -248,7 +248,7 @@ fn figures_of<R: Reach + AllocGlobal>(
     command: Command,
     stats: bool,
     input: &Given,
-    watch: Watch,
+    watch: Stopwatch,
 ) -> Option<Figures> {
     if !stats {
         return None;
@@ -280,7 +280,7 @@ fn tell_figures<E: Write>(errors: &mut E, is_json: bool, figures: Option<Figures
 }
 
 /// Reads the input of a command, writes the answer, and then the notes and the figures.
-fn carry_out<'a, R: Reach + AllocGlobal, T: Texts, W: Write, E: Write>(
+fn carry_out<'a, R: Reach + AllocGlobal, T: FileTexts, W: Write, E: Write>(
     rt: &R,
     command: Command,
     options: Options<'a>,
@@ -298,7 +298,7 @@ fn carry_out<'a, R: Reach + AllocGlobal, T: Texts, W: Write, E: Write>(
     ensures untouched { IfErr result (λ fault. fault ≢ Fault.Cli CliFault.Write → output.new.inner ≡ output.old.inner) }
 {
     let programs = programs_of(rt, command, options.apart)?;
-    let watch = Watch::start(rt);
+    let watch = Stopwatch::start(rt);
     let given = read(texts, command, files)?;
     *kept = kept_of(rt.alloc(), command, files, &given);
     let input = name_given(rt.alloc(), command, options.outs, given)?;
@@ -325,7 +325,7 @@ fn carry_out<'a, R: Reach + AllocGlobal, T: Texts, W: Write, E: Write>(
 /// `Read`, or for standard input `Cli(Read)`, and `Cli(InputTooLong)`. If outputs are named, `Cli(NoSeparator)`, `Cli(Hoa)`, `Controlled`,
 /// `NoProposition` and `Cli(InputTooLong)`; for `automaton` they come after the others, except `Cli(Write)`. `Cli` with a fault of
 /// `pg_cli::answer`. `Cli(Write)`. `Cli(OutOfMemory)` can come at any point. For a worker it returns `Cli` with a fault of `pg_cli::work`.
-pub fn obey<'a, R: Reach + AllocGlobal, T: Texts, W: Write, E: Write>(
+pub fn obey<'a, R: Reach + AllocGlobal, T: FileTexts, W: Write, E: Write>(
     rt: &R,
     request: &'a Request,
     files: &[&'a str],

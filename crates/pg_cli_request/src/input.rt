@@ -7,7 +7,7 @@ ghost use Rattle.pg_cli_request.specs.Mirrors.Givens.{input_of, IsWithin};
 
 use crate::fault::Fault;
 use crate::pair::{PairCommand, pair_of};
-use crate::texts::Texts;
+use crate::texts::FileTexts;
 use pg_cli::{CliFault, Command, MOST_BYTES};
 use pg_cli_words::STANDARD_INPUT;
 
@@ -34,7 +34,7 @@ impl Given {
 
 /// Reads the texts of two files. Fails with `InputTooLong` if one input with both texts, and a line `--` between them, would have more than
 /// `MOST_BYTES` bytes.
-fn read_both<'a, T: Texts>(
+fn read_both<'a, T: FileTexts>(
     texts: &T,
     first: &'a str,
     second: &'a str,
@@ -54,7 +54,7 @@ fn read_both<'a, T: Texts>(
 }
 
 /// Reads the input of a command: the contents of its files, or of standard input if none is named.
-pub(crate) fn read<'a, T: Texts>(
+pub(crate) fn read<'a, T: FileTexts>(
     texts: &T,
     command: Command,
     files: &[&'a str],

@@ -12,4 +12,4 @@ mod texts;
 pub use answering::obey;
 pub use fault::{Fault, end, status_of, tell, tell_outcome, write_fault};
 pub use pair::PairCommand;
-pub use texts::Texts;
+pub use texts::FileTexts;

@@ -7,7 +7,7 @@ use crate::fault::Fault;
 use pg_cli::MOST_BYTES;
 
 /// A source of the texts of files.
-pub trait Texts {
+pub trait FileTexts {
     /// The file of this name has this text.
     ghost holds: { Self → List ℕ → List ℕ → Type 0 };
 

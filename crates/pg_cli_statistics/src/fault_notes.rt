@@ -2,7 +2,7 @@
 
 use crate::headers::{Limit, limit_of, read_headers};
 use crate::hints::{first_kind, is_written_formula, on_syntax, second_kind};
-use crate::kept::{Kept, Text};
+use crate::kept::{Kept, KeptText};
 use pg_aiger_reader::ReaderFault;
 use pg_cli_command::{CliFault, Untranslated};
 use pg_cli_words::Command;
@@ -23,7 +23,7 @@ const WRITTEN_FORMULA: &str =
 
 /// A place in a file; lines and columns count from 1, and a column is a character of UTF-8.
 #[derive(Clone, Copy)]
-struct Place<'a> {
+struct FilePlace<'a> {
     name: &'a str,
     line: usize,
     column: usize,
@@ -48,14 +48,14 @@ enum Named {
 /// The notes on a fault.
 #[derive(Drop)]
 pub struct FaultNotes<'a> {
-    place: Option<Place<'a>>,
+    place: Option<FilePlace<'a>>,
     hint: Option<Hint>,
     names: Option<(Named, Vec<Vec<u8>>)>,
 }
 
 /// Returns the line and the column of an offset, or None if the file has no name or isn't kept that far.
-fn place_in(text: Text<'_>, offset: usize) -> Option<Place<'_>> {
-    let mut place = Place {
+fn place_in(text: KeptText<'_>, offset: usize) -> Option<FilePlace<'_>> {
+    let mut place = FilePlace {
         name: text.name?,
         line: 1,
         column: 1,
@@ -74,7 +74,7 @@ fn place_in(text: Text<'_>, offset: usize) -> Option<Place<'_>> {
 }
 
 /// Whether the text of a game is at fault, and not the text of its solution. Returns None if that isn't known.
-fn is_of_game(alloc: Global, game: Text<'_>) -> Option<bool> {
+fn is_of_game(alloc: Global, game: KeptText<'_>) -> Option<bool> {
     match read_game(alloc, game.bytes) {
         Err(TextFault::OutOfMemory) => None,
         found if game.is_whole => Some(found.is_err()),
@@ -87,7 +87,7 @@ fn is_of_game(alloc: Global, game: Text<'_>) -> Option<bool> {
 fn offset_of(
     alloc: Global,
     command: Command,
-    first: Text<'_>,
+    first: KeptText<'_>,
     fault: &CliFault,
 ) -> Option<(bool, usize)> {
     match fault {
@@ -146,7 +146,7 @@ fn plain_hint(command: Command, fault: &CliFault) -> Option<Hint> {
 }
 
 /// Whether the token at this offset is the first of a vertex's line.
-fn begins_line(game: Text<'_>, offset: usize) -> bool {
+fn begins_line(game: KeptText<'_>, offset: usize) -> bool {
     match game.bytes.get(..offset) {
         Some(before) => before.trim_ascii().is_empty() || before.trim_ascii().ends_with(b";"),
         None => false,
@@ -157,7 +157,7 @@ fn begins_line(game: Text<'_>, offset: usize) -> bool {
 fn text_hint(
     alloc: Global,
     command: Command,
-    text: Text<'_>,
+    text: KeptText<'_>,
     is_first: bool,
     offset: usize,
     fault: &CliFault,
@@ -247,7 +247,7 @@ impl<'a> FaultNotes<'a> {
         notes
     }
 
-    fn set_names(&mut self, alloc: Global, automaton: Text<'_>, named: Named) {
+    fn set_names(&mut self, alloc: Global, automaton: KeptText<'_>, named: Named) {
         if let Some(read) = read_headers(alloc, automaton.bytes) {
             self.names = Some((named, read.names));
         }
@@ -259,7 +259,7 @@ impl<'a> FaultNotes<'a> {
     }
 
     fn write<E: Write>(self, errors: &mut E) -> io::Result<()> {
-        if let Some(Place { name, line, column }) = self.place {
+        if let Some(FilePlace { name, line, column }) = self.place {
             writeln!(
                 errors,
                 "parsolve: note: in {name}, line {line}, column {column}"

@@ -5,7 +5,7 @@ ghost use Rattle.std.specs.Prelude.{◌≡◌};
 
 use crate::kept::parted;
 use pg_aiger_netlist::Netlist;
-use pg_aiger_reader::{Parts as CircuitParts, read_circuit, tie};
+use pg_aiger_reader::{Parts, read_circuit, tie};
 use pg_arena::{Game, Vertex};
 use pg_cli_words::Command;
 use pg_hoa::{Automaton, read_automaton};
@@ -39,35 +39,35 @@ struct Wins {
 
 /// The numbers of latches and gates of a circuit.
 #[derive(Clone, Copy)]
-struct Parts {
+struct CircuitSize {
     latches: usize,
     gates: usize,
 }
 
 /// The names of the propositions that one side sets, as a line lists them, and as an array of JSON.
 #[derive(Drop)]
-struct Side {
+struct SideNames {
     line: Vec<u8>,
     array: Vec<u8>,
 }
 
 /// The names of the propositions of each side.
 #[derive(Drop)]
-struct Sides {
-    inputs: Side,
-    outputs: Side,
+struct PropositionNames {
+    inputs: SideNames,
+    outputs: SideNames,
 }
 
 /// A stopwatch for pieces of work, one after another.
 #[derive(Clone, Copy)]
-pub struct Watch {
+pub struct Stopwatch {
     last: Duration,
 }
 
-impl Watch {
+impl Stopwatch {
     /// Starts the watch. The first piece of work begins.
-    pub fn start<R: Clock>(rt: &R) -> Watch {
-        Watch {
+    pub fn start<R: Clock>(rt: &R) -> Stopwatch {
+        Stopwatch {
             last: rt.monotonic().unwrap_or(Duration::ZERO),
         }
     }
@@ -93,14 +93,14 @@ pub struct Figures {
     products: Option<ProductSizes>,
     /// The number of states of the product of the automaton and a circuit.
     product: Option<u32>,
-    sides: Option<Sides>,
+    sides: Option<PropositionNames>,
     size: Option<Size>,
     wins: Option<Wins>,
-    parts: Option<Parts>,
+    parts: Option<CircuitSize>,
     read: Duration,
     answered: Duration,
     written: Option<Duration>,
-    watch: Watch,
+    watch: Stopwatch,
 }
 
 /// Returns the size of a game.
@@ -162,12 +162,12 @@ fn number_in(field: Option<&[u8]>) -> Option<usize> {
 
 /// Returns the numbers of latches and gates of the circuit in a text. They are in the first line that begins with `aag ` or `aig `, such as
 /// `aag M I L O A`.
-fn parts_in(text: &[u8]) -> Option<Parts> {
+fn parts_in(text: &[u8]) -> Option<CircuitSize> {
     let line = text.split(|byte| *byte == b'\n').find(|line| line.starts_with(b"aag ")
         || line.starts_with(b"aig "))?;
     let latches = number_in(line.split(|byte| *byte == b' ').nth(3))?;
     let gates = number_in(line.split(|byte| *byte == b' ').nth(5))?;
-    Some(Parts { latches, gates })
+    Some(CircuitSize { latches, gates })
 }
 
 /// Returns the number of states of the automaton in a text, by its header.
@@ -225,7 +225,11 @@ fn push_string(array: &mut Vec<u8>, name: &[u8]) -> Result<(), AllocError> {
 }
 
 /// Returns the names of the propositions that one side sets.
-fn side_of(alloc: Global, automaton: &Automaton, is_controller: bool) -> Result<Side, AllocError> {
+fn side_of(
+    alloc: Global,
+    automaton: &Automaton,
+    is_controller: bool,
+) -> Result<SideNames, AllocError> {
     let mut line = Vec::new(alloc);
     let mut array = Vec::from_slice(alloc, b"[")?;
     for a in 0..automaton.propositions() {
@@ -244,12 +248,12 @@ fn side_of(alloc: Global, automaton: &Automaton, is_controller: bool) -> Result<
         line.extend_from_slice(b"none")?;
     }
     array.push(b']')?;
-    Ok(Side { line, array })
+    Ok(SideNames { line, array })
 }
 
 /// Returns the names of the propositions of both sides.
-fn sides_of(alloc: Global, automaton: &Automaton) -> Result<Sides, AllocError> {
-    Ok(Sides {
+fn sides_of(alloc: Global, automaton: &Automaton) -> Result<PropositionNames, AllocError> {
+    Ok(PropositionNames {
         inputs: side_of(alloc, automaton, false)?,
         outputs: side_of(alloc, automaton, true)?,
     })
@@ -269,7 +273,7 @@ struct Counted {
     states: Option<u32>,
     products: Option<ProductSizes>,
     product: Option<u32>,
-    sides: Option<Sides>,
+    sides: Option<PropositionNames>,
     size: Option<Size>,
 }
 
@@ -286,7 +290,7 @@ fn product_in(
     let Ok(parts) = tie(alloc, automaton, parts, by_place) else {
         return None;
     };
-    let CircuitParts {
+    let Parts {
         greatest,
         inputs,
         latches,
@@ -378,7 +382,7 @@ impl Figures {
         rt: &R,
         command: Command,
         text: &[u8],
-        watch: Watch,
+        watch: Stopwatch,
     ) -> Figures {
         let (first, second) = both_texts(command, text);
         Figures::of_both(rt, command, first, second, watch)
@@ -390,7 +394,7 @@ impl Figures {
         command: Command,
         first: &[u8],
         second: &[u8],
-        mut watch: Watch,
+        mut watch: Stopwatch,
     ) -> Figures {
         let read = watch.lap(rt);
         let Counted {
@@ -566,7 +570,7 @@ impl Figures {
     }
 }
 
-impl Sides {
+impl PropositionNames {
     fn write<E: Write>(&self, errors: &mut E) -> io::Result<()> {
         errors.write_all(b"parsolve: stats: inputs ")?;
         errors.write_all(self.inputs.line.as_slice())?;

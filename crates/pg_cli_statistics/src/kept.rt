@@ -34,7 +34,7 @@ pub struct Kept<'a> {
 
 /// A text as far as it is kept, and the name of its file; standard input has no name.
 #[derive(Clone, Copy)]
-pub(crate) struct Text<'a> {
+pub(crate) struct KeptText<'a> {
     pub(crate) name: Option<&'a str>,
     pub(crate) bytes: &'a [u8],
     pub(crate) is_whole: bool,
@@ -57,8 +57,8 @@ impl<'a> Piece<'a> {
     }
 
     /// Returns the file as one text.
-    fn text(&self) -> Text<'_> {
-        Text {
+    fn text(&self) -> KeptText<'_> {
+        KeptText {
             name: self.name,
             bytes: self.bytes.as_slice(),
             is_whole: self.is_whole,
@@ -139,7 +139,7 @@ impl<'a> Kept<'a> {
 
     /// Returns the first text that the command reads, and the second text if the command reads two and both are kept. If one input holds
     /// both texts, it counts as standard input.
-    pub(crate) fn texts(&self) -> (Option<Text<'_>>, Option<Text<'_>>) {
+    pub(crate) fn texts(&self) -> (Option<KeptText<'_>>, Option<KeptText<'_>>) {
         let input = match &self.pieces {
             Pieces::Nothing => return (None, None),
             Pieces::Two(first, second) => return (Some(first.text()), Some(second.text())),
@@ -147,12 +147,12 @@ impl<'a> Kept<'a> {
         };
         match parted(input.bytes) {
             Some((first, second)) if self.takes_two() => (
-                Some(Text {
+                Some(KeptText {
                     name: None,
                     bytes: first,
                     is_whole: true,
                 }),
-                Some(Text {
+                Some(KeptText {
                     name: None,
                     bytes: second,
                     is_whole: input.is_whole,

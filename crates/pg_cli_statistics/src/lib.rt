@@ -11,6 +11,6 @@ mod kept;
 mod notes;
 
 pub use fault_notes::FaultNotes;
-pub use figures::{CountedTops, Figures, Watch};
+pub use figures::{CountedTops, Figures, Stopwatch};
 pub use kept::Kept;
 pub use notes::{Notes, note_on_words};

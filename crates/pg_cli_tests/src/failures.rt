@@ -1,6 +1,8 @@
 ghost use Rattle.pg_cli_words.specs.Words.{HasFewWorkers};
 
-use crate::streams::{CIRCUIT, Failing, Full, GAME, LOOP, SCRIPT, SOLVED, TURNS, TWO, WORLD};
+use crate::streams::{
+    CIRCUIT, FailingInput, FailingOutput, GAME, LOOP, SCRIPT, SOLVED, TURNS, TWO, WORLD,
+};
 use pg_cli::{CliFault, Command, run};
 use std::alloc::Global;
 use std::io::ErrorKind;
@@ -10,7 +12,7 @@ use std::io::ErrorKind;
 fn tells_failed_read(alloc: Global, command: Command, input: &[u8], before: usize) -> bool
     requires { HasFewWorkers command }
 {
-    let mut reader = Failing {
+    let mut reader = FailingInput {
         left: input,
         before,
         kind: ErrorKind::Other,
@@ -37,7 +39,7 @@ fn run_into(alloc: Global, command: Command, input: &[u8], before: usize) -> Res
     requires { HasFewWorkers command }
 {
     let mut reader = input;
-    let mut output = Full { before };
+    let mut output = FailingOutput { before };
     run(alloc, command, &mut reader, &mut output)
 }
 

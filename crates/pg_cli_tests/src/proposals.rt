@@ -14,7 +14,7 @@ use std::alloc::{AllocError, Global};
 /// Solves games in one piece, and proposes wrong circuits and automata. If `is_right_too` is set, it also proposes a right circuit, and it
 /// proposes a right automaton instead of the wrong one.
 #[derive(Clone, Copy)]
-struct Proposing {
+struct WrongProposer {
     is_right_too: bool,
 }
 
@@ -44,7 +44,7 @@ fn gate(lhs: u32, rhs0: u32, rhs1: u32) -> Option<Gate> {
     Some(Gate { lhs, rhs0, rhs1 })
 }
 
-impl Solver for Proposing {
+impl Solver for WrongProposer {
     type Map = Found;
 
     ghost use Rattle.pg_cli_command.specs.Measuring.{IsMeasureOf};
@@ -165,7 +165,7 @@ fn answered(
         return None;
     }
     let text = text.to_vec(alloc).ok()?;
-    let mut solver = Proposing { is_right_too };
+    let mut solver = WrongProposer { is_right_too };
     let mut output = Vec::new(alloc);
     let done = write_answer_by(alloc, command, text, &mut solver, &mut output);
     Some((done, output))

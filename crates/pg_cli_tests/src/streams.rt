@@ -7,13 +7,13 @@ use std::test::Fail;
 
 /// Gives one byte at a time. The read after `before` others fails with this kind of error.
 #[derive(Drop)]
-pub(crate) struct Failing<'a> {
+pub(crate) struct FailingInput<'a> {
     pub(crate) left: &'a [u8],
     pub(crate) before: usize,
     pub(crate) kind: ErrorKind,
 }
 
-impl Read for Failing<'_> {
+impl Read for FailingInput<'_> {
     fn read(&mut self, buf: &mut [u8]) -> io::Result<usize> {
         if self.before == 0 {
             self.before = usize::MAX;
@@ -27,11 +27,11 @@ impl Read for Failing<'_> {
 
 /// Takes one byte at a time, and fails at every write after the first `before`.
 #[derive(Drop)]
-pub(crate) struct Full {
+pub(crate) struct FailingOutput {
     pub(crate) before: usize,
 }
 
-impl Write for Full {
+impl Write for FailingOutput {
     fn write(&mut self, buf: &[u8]) -> io::Result<usize> {
         if self.before == 0 {
             return Err(io::Error::from(ErrorKind::Other));
@@ -86,7 +86,7 @@ fn a_text_in_memory_is_answered(rt: HostRuntime) -> Result<(), Fail> {
 
 /// Whether `measure` answers even if the read with this number is interrupted.
 fn passes_interrupted_read(alloc: Global, before: usize) -> bool {
-    let mut input = Failing {
+    let mut input = FailingInput {
         left: TWO,
         before,
         kind: ErrorKind::Interrupted,

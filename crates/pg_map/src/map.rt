@@ -11,7 +11,7 @@ ghost use Rattle.pg_map.specs.Maps.{measure_at, IsMap, zero_map, update_map, Map
 ghost use Rattle.pg_map.specs.Weights.{map_weight};
 
 use crate::Lines;
-use crate::rows::RowTable;
+use crate::row_table::RowTable;
 use pg_arena::{Player, Vertex};
 use pg_measure::{Bounds, Measure, View, row};
 use std::alloc::{AllocError, Global};

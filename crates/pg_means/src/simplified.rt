@@ -19,9 +19,9 @@ struct Operand {
 }
 
 /// The key of a part: its operator and its operands.
-type Key = (u8, usize, usize);
+type PartKey = (u8, usize, usize);
 
-fn key_of(node: NormalNode) -> Key {
+fn key_of(node: NormalNode) -> PartKey {
     match node {
         NormalNode::Top => (0, 0, 0),
         NormalNode::Bottom => (1, 0, 0),
@@ -37,7 +37,7 @@ fn key_of(node: NormalNode) -> Key {
 /// Returns the place of the part, if it is known.
 fn known_place(
     nodes: &[NormalNode],
-    known: &BTreeMap<Key, usize>,
+    known: &BTreeMap<PartKey, usize>,
     node: NormalNode,
 ) -> Option<usize>
     ensures { IfSome result (λ place. (place < length nodes.now) × (normal_node_in nodes.now place ≡ node)) }
@@ -50,7 +50,7 @@ fn known_place(
 /// Returns the place of a part, appending the part if it isn't known. The entries of `known` are checked before use.
 fn put(
     nodes: &mut Vec<NormalNode>,
-    known: &mut BTreeMap<Key, usize>,
+    known: &mut BTreeMap<PartKey, usize>,
     node: NormalNode,
 ) -> Result<usize, AllocError>
     requires ordered { AreNormalNodes nodes.old.items }
@@ -149,7 +149,7 @@ fn holds_on(nodes: &[NormalNode], place: usize) -> bool
 /// Appends `F G f & F G g`, as `F G (f & g)`.
 fn both_persistent(
     nodes: &mut Vec<NormalNode>,
-    known: &mut BTreeMap<Key, usize>,
+    known: &mut BTreeMap<PartKey, usize>,
     f: (Operand, Operand),
     g: usize,
 ) -> Result<usize, AllocError>
@@ -170,7 +170,7 @@ fn both_persistent(
 /// Appends `G F f | G F g`, as `G F (f | g)`.
 fn either_recurrent(
     nodes: &mut Vec<NormalNode>,
-    known: &mut BTreeMap<Key, usize>,
+    known: &mut BTreeMap<PartKey, usize>,
     f: (Operand, Operand),
     g: usize,
 ) -> Result<usize, AllocError>
@@ -191,7 +191,7 @@ fn either_recurrent(
 /// Returns the place of a part that says the same as `f & g`, appending parts as needed.
 fn conjunction(
     nodes: &mut Vec<NormalNode>,
-    known: &mut BTreeMap<Key, usize>,
+    known: &mut BTreeMap<PartKey, usize>,
     f: usize,
     g: usize,
 ) -> Result<usize, AllocError>
@@ -217,7 +217,7 @@ fn conjunction(
 /// Returns the place of a part that says the same as `f | g`, appending parts as needed.
 fn disjunction(
     nodes: &mut Vec<NormalNode>,
-    known: &mut BTreeMap<Key, usize>,
+    known: &mut BTreeMap<PartKey, usize>,
     f: usize,
     g: usize,
 ) -> Result<usize, AllocError>
@@ -243,7 +243,7 @@ fn disjunction(
 /// Returns the place of a part that says the same as `f U g`, appending parts as needed.
 fn at_last(
     nodes: &mut Vec<NormalNode>,
-    known: &mut BTreeMap<Key, usize>,
+    known: &mut BTreeMap<PartKey, usize>,
     f: usize,
     g: usize,
 ) -> Result<usize, AllocError>
@@ -265,7 +265,7 @@ fn at_last(
 /// Returns the place of a part that says the same as `f R g`, appending parts as needed.
 fn as_long(
     nodes: &mut Vec<NormalNode>,
-    known: &mut BTreeMap<Key, usize>,
+    known: &mut BTreeMap<PartKey, usize>,
     f: usize,
     g: usize,
 ) -> Result<usize, AllocError>
@@ -287,7 +287,7 @@ fn as_long(
 /// Returns the place of a part without operands, or of `X f`, appending it as needed.
 fn plain(
     nodes: &mut Vec<NormalNode>,
-    known: &mut BTreeMap<Key, usize>,
+    known: &mut BTreeMap<PartKey, usize>,
     node: NormalNode,
 ) -> Result<usize, AllocError>
     requires ordered { AreNormalNodes nodes.old.items }
@@ -301,7 +301,7 @@ fn plain(
 /// Returns the place of a part that says the same as `node`, whose operands are looked up in `places`, appending parts as needed.
 fn added(
     nodes: &mut Vec<NormalNode>,
-    known: &mut BTreeMap<Key, usize>,
+    known: &mut BTreeMap<PartKey, usize>,
     places: &[usize],
     node: NormalNode,
 ) -> Result<usize, AllocError>

@@ -25,7 +25,7 @@ enum Wanted {
 
 /// The arcs of at most this priority that stay inside a component.
 #[derive(Clone, Copy)]
-struct Inside<'a, 'b> {
+struct InnerArcs<'a, 'b> {
     product: &'a Product,
     ranks: &'b [u32],
     priority: u32,
@@ -41,15 +41,15 @@ fn is_wanted(product: &Product, arc: &Arc, wanted: Wanted) -> bool {
 
 /// How a node was reached: from which node, by which arc.
 #[derive(Clone, Copy)]
-struct Step {
+struct ArcStep {
     from: u32,
     arc: Arc,
 }
 
-impl Inside<'_, '_> {
+impl InnerArcs<'_, '_> {
     /// Returns a shortest way from a node to a wanted arc, that arc included. The way is empty if there is none.
     fn way(&self, alloc: Global, from: u32, wanted: Wanted) -> Result<Vec<Arc>, AllocError> {
-        let mut steps: Vec<Option<Step>> = vec![in alloc; None; self.product.len()]?;
+        let mut steps: Vec<Option<ArcStep>> = vec![in alloc; None; self.product.len()]?;
         let mut queue = Vec::new(alloc);
         queue.push(from)?;
         for turn in 0..self.product.len() {
@@ -65,7 +65,7 @@ impl Inside<'_, '_> {
                 }
                 let to = arc.to as usize;
                 if arc.to != from && to < steps.len() && steps[to].is_none() {
-                    steps[to] = Some(Step { from: v, arc: *arc });
+                    steps[to] = Some(ArcStep { from: v, arc: *arc });
                     queue.push(arc.to)?;
                 }
             }
@@ -77,7 +77,7 @@ impl Inside<'_, '_> {
 /// Returns the arcs by which the node `to` was reached from `from`, followed by a last arc.
 fn way_back(
     alloc: Global,
-    steps: &[Option<Step>],
+    steps: &[Option<ArcStep>],
     from: u32,
     to: u32,
     last: Arc,
@@ -155,12 +155,12 @@ pub fn lasso_of(
 ) -> Result<Lasso, AllocError> {
     let root = root_of(ranks, component);
     let all = vec![in alloc; 0; ranks.len()]?;
-    let anywhere = Inside {
+    let anywhere = InnerArcs {
         product,
         ranks: &all,
         priority: u32::MAX,
     };
-    let inside = Inside {
+    let inside = InnerArcs {
         product,
         ranks,
         priority,

@@ -102,12 +102,12 @@ impl Board {
     }
 
     /// Plays the game.
-    pub fn play(&mut self, alloc: Global) -> Result<Played, AllocError> {
+    pub fn play(&mut self, alloc: Global) -> Result<PlayedGame, AllocError> {
         let priorities = mem::replace(&mut self.priorities, Vec::new(alloc));
         let targets = mem::replace(&mut self.targets, Vec::new(alloc));
         let graph = Graph::new(alloc, priorities, &self.owners, &self.offsets, targets)?;
         let winners = find_winners(alloc, &graph)?;
-        Ok(Played { graph, winners })
+        Ok(PlayedGame { graph, winners })
     }
 
     /// Returns the claims that are kept and that the opponent wins, in an order that shows them.
@@ -141,12 +141,12 @@ impl Board {
 
 /// A game that was played.
 #[derive(Drop)]
-pub(crate) struct Played {
+pub(crate) struct PlayedGame {
     graph: Graph,
     pub winners: Winners,
 }
 
-impl Played {
+impl PlayedGame {
     /// Returns which nodes are reached from those of the first claims, up to a node, if the opponent goes as it chose.
     pub fn kept(&self, alloc: Global, end: u32) -> Result<Vec<bool>, AllocError> {
         let mut is_kept = vec![in alloc; false; self.graph.len() as usize]?;

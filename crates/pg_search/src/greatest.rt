@@ -5,14 +5,14 @@ use std::alloc::{AllocError, Global};
 
 /// An edge that leads out of a run of places, and the row that it leads to.
 #[derive(Clone, Copy)]
-pub(crate) struct Way {
+pub(crate) struct ExitEdge {
     pub row: u32,
     pub from: u32,
     pub to: u32,
 }
 
-impl Way {
-    pub const NOWHERE: Way = Way {
+impl ExitEdge {
+    pub const NOWHERE: ExitEdge = ExitEdge {
         row: ZEROS,
         from: NONE,
         to: NONE,
@@ -23,7 +23,7 @@ impl Way {
 #[derive(Drop)]
 pub(crate) struct Greatest {
     leaves: u32,
-    ways: Vec<Way>,
+    ways: Vec<ExitEdge>,
 }
 
 impl Greatest {
@@ -37,17 +37,17 @@ impl Greatest {
         }
         Ok(Greatest {
             leaves: count(leaves),
-            ways: vec![in alloc; Way::NOWHERE; leaves.saturating_mul(2)]?,
+            ways: vec![in alloc; ExitEdge::NOWHERE; leaves.saturating_mul(2)]?,
         })
     }
 
     #[inline(always)]
-    fn way(&self, node: u32) -> Way {
-        item(&self.ways, node, Way::NOWHERE)
+    fn way(&self, node: u32) -> ExitEdge {
+        item(&self.ways, node, ExitEdge::NOWHERE)
     }
 
     /// Puts a way at a place, if it is greater than the way there.
-    pub fn put(&mut self, rows: &Rows, place: u32, way: Way) {
+    pub fn put(&mut self, rows: &Rows, place: u32, way: ExitEdge) {
         let mut node = self.leaves.saturating_add(place);
         for _ in 0..33 {
             if node == 0 || !rows.is_under(self.way(node).row, way.row) {
@@ -58,7 +58,7 @@ impl Greatest {
         }
     }
 
-    fn greater(&self, rows: &Rows, way: Way, node: u32) -> Way {
+    fn greater(&self, rows: &Rows, way: ExitEdge, node: u32) -> ExitEdge {
         let other = self.way(node);
         if rows.is_under(way.row, other.row) {
             other
@@ -68,10 +68,10 @@ impl Greatest {
     }
 
     /// Returns the greatest way of the places from `from` on and before `to`.
-    pub fn over(&self, rows: &Rows, from: u32, to: u32) -> Way {
+    pub fn over(&self, rows: &Rows, from: u32, to: u32) -> ExitEdge {
         let mut low = self.leaves.saturating_add(from);
         let mut high = self.leaves.saturating_add(to);
-        let mut most = Way::NOWHERE;
+        let mut most = ExitEdge::NOWHERE;
         for _ in 0..33 {
             if low >= high {
                 break;

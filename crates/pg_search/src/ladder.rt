@@ -5,7 +5,7 @@ use pg_search_rows::{NONE, Rows, Side, TOP, ZEROS, at, count, is_marked, put};
 use std::alloc::{AllocError, Global};
 
 #[derive(Drop)]
-pub(crate) struct Ladder {
+pub(crate) struct RowLadder {
     /// The priority of each step.
     pub steps: Vec<u32>,
     /// The rank of each row that is in the ladder.
@@ -38,9 +38,9 @@ fn rows_in_use(alloc: Global, side: &Side) -> Result<Vec<u32>, AllocError> {
     Ok(used)
 }
 
-impl Ladder {
+impl RowLadder {
     /// Returns the ladder of all rows of a side.
-    pub fn new(alloc: Global, side: &Side) -> Result<Ladder, AllocError> {
+    pub fn new(alloc: Global, side: &Side) -> Result<RowLadder, AllocError> {
         let rows = &side.rows;
         let used = rows_in_use(alloc, side)?;
         let mut children = Children::with_capacity(alloc, 0)?;
@@ -52,7 +52,7 @@ impl Ladder {
         for row in used.iter().rev() {
             children.put(rows.node(*row).parent, *row);
         }
-        let mut ladder = Ladder {
+        let mut ladder = RowLadder {
             steps: Vec::with_capacity(alloc, used.len())?,
             ranks: vec![in alloc; NONE; rows.len() as usize]?,
             children,

@@ -21,7 +21,7 @@ fn parity_of(game: &Game) -> Option<u32> {
 
 /// A vertex with its priority.
 #[derive(Clone, Copy)]
-struct Ordered {
+struct VertexPriority {
     vertex: u32,
     priority: u32,
 }
@@ -32,14 +32,14 @@ fn claims_of_top(alloc: Global, game: &Game) -> Result<Claims, AllocError> {
     let mut order = Vec::with_capacity(alloc, game.len())?;
     for vertex in 0..game.len() as u32 {
         let priority = game.priority(Vertex(vertex));
-        order.push(Ordered { vertex, priority })?;
+        order.push(VertexPriority { vertex, priority })?;
     }
     order.sort_unstable_by_key(|it| !it.priority);
     let end = count(order.len());
     let mut claims = Vec::with_capacity(alloc, order.len())?;
     let mut firsts = vec![in alloc; 0; order.len()]?;
     let mut spans = Vec::with_capacity(alloc, order.len())?;
-    for Ordered { vertex, priority } in &order {
+    for VertexPriority { vertex, priority } in &order {
         let place = count(claims.len());
         claims.push(Claim {
             vertex: Vertex(*vertex),

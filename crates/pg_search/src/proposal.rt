@@ -1,8 +1,8 @@
 //! Proposals of least maps: a ladder, ranks, and claims.
 
-use crate::ladder::Ladder;
+use crate::ladder::RowLadder;
 use crate::one_parity::propose_at_once;
-use crate::region::Region;
+use crate::region::WonRegion;
 use crate::search::find;
 use pg_arena::{Game, Player, Vertex};
 use pg_map_claims::{Claim, Claims, Proposal, Proposals, Span};
@@ -39,7 +39,7 @@ pub fn propose_measure(alloc: Global, game: &Game) -> Result<Option<Proposal>, A
             span: at(&winners.span, *v),
         })?;
     }
-    let region = Region::of(alloc, &graph, &winners, Player::Even)?;
+    let region = WonRegion::of(alloc, &graph, &winners, Player::Even)?;
     propose_for(alloc, &graph.into_priorities(), &region, tops)
 }
 
@@ -54,8 +54,8 @@ pub fn propose(alloc: Global, game: &Game) -> Result<Option<Proposals>, AllocErr
     if !winners.is_ordered {
         return Ok(None);
     }
-    let of_even = Region::of(alloc, &graph, &winners, Player::Even)?;
-    let of_odd = Region::of(alloc, &graph, &winners, Player::Odd)?;
+    let of_even = WonRegion::of(alloc, &graph, &winners, Player::Even)?;
+    let of_odd = WonRegion::of(alloc, &graph, &winners, Player::Odd)?;
     drop(winners);
     let priorities = graph.into_priorities();
     let Some(of_game) = propose_for(alloc, &priorities, &of_even, Vec::new(alloc))? else {
@@ -73,7 +73,7 @@ pub fn propose(alloc: Global, game: &Game) -> Result<Option<Proposals>, AllocErr
 fn propose_for(
     alloc: Global,
     priorities: &[u32],
-    region: &Region,
+    region: &WonRegion,
     tops: Vec<RowClaim>,
 ) -> Result<Option<Proposal>, AllocError> {
     let graph = &region.graph;
@@ -96,11 +96,11 @@ fn propose_for(
 fn write(
     alloc: Global,
     priorities: &[u32],
-    region: &Region,
+    region: &WonRegion,
     side: &Side,
     claims: &[RowClaim],
 ) -> Result<Proposal, AllocError> {
-    let ladder = Ladder::new(alloc, side)?;
+    let ladder = RowLadder::new(alloc, side)?;
     let hint = |row: u32, priority: u32| match priority % 2 {
         0 => ladder.hint(&side.rows, row, priority),
         _ => NONE,
@@ -121,7 +121,7 @@ fn write(
         }
     }
     let claims = rank_claims(alloc, priorities, region.player, &ladder, claims)?;
-    let Ladder { steps, .. } = ladder;
+    let RowLadder { steps, .. } = ladder;
     Ok(Proposal {
         steps,
         ranks,
@@ -135,7 +135,7 @@ fn rank_claims(
     alloc: Global,
     priorities: &[u32],
     player: u32,
-    ladder: &Ladder,
+    ladder: &RowLadder,
     listed: &[RowClaim],
 ) -> Result<Claims, AllocError> {
     let mut firsts = vec![in alloc; 0; priorities.len()]?;

@@ -16,7 +16,7 @@ const GROUND: u32 = 0;
 
 /// The vertices that a player wins, numbered in the order that shows it, so that edges mostly lead to numbers nearby.
 #[derive(Drop)]
-pub(crate) struct Region {
+pub(crate) struct WonRegion {
     /// Even is 0, Odd is 1.
     pub player: u32,
     /// The number of each vertex of the whole game that the player wins, and `NONE` for all others.
@@ -28,13 +28,13 @@ pub(crate) struct Region {
     pub choices: Vec<u32>,
 }
 
-impl Region {
+impl WonRegion {
     pub fn of(
         alloc: Global,
         whole: &Graph,
         winners: &Winners,
         player: Player,
-    ) -> Result<Region, AllocError> {
+    ) -> Result<WonRegion, AllocError> {
         let won = match player {
             Player::Even => &winners.of_even,
             Player::Odd => &winners.of_odd,
@@ -58,7 +58,7 @@ impl Region {
             put(&mut choices, GROUND, GROUND);
         }
         let graph = whole.part(alloc, &vertices, &numbers)?;
-        Ok(Region {
+        Ok(WonRegion {
             player,
             numbers,
             vertices,

@@ -1,12 +1,12 @@
 //! Ways from the heads of a part to its greatest way out, and the claims along them.
 
-use crate::greatest::Way;
+use crate::greatest::ExitEdge;
 use pg_search_rows::{NONE, RowClaim, Side, ZEROS, at, item, put};
 use std::alloc::{AllocError, Global};
 
 /// A component in an order: the place where it begins, how many heads come first, and the place before which it ends.
 #[derive(Clone, Copy)]
-pub(crate) struct Part {
+pub(crate) struct OrderedComponent {
     pub begin: u32,
     pub heads: u32,
     pub end: u32,
@@ -14,7 +14,7 @@ pub(crate) struct Part {
 
 /// How a vertex was found.
 #[derive(Clone, Copy)]
-struct Found {
+struct Visit {
     /// The part in which it was last found on the search back; `next` is where the way out goes on from it.
     part: u32,
     next: u32,
@@ -25,8 +25,8 @@ struct Found {
     row: u32,
 }
 
-impl Found {
-    const NOT: Found = Found {
+impl Visit {
+    const NOT: Visit = Visit {
         part: NONE,
         next: NONE,
         turn: 0,
@@ -38,9 +38,9 @@ impl Found {
 /// A search from both ends: forward from a head, and back from the way out.
 #[derive(Drop)]
 pub(crate) struct Ways {
-    part: Part,
-    out: Way,
-    found: Vec<Found>,
+    part: OrderedComponent,
+    out: ExitEdge,
+    found: Vec<Visit>,
     turn: u32,
     fore: Vec<u32>,
     back: Vec<u32>,
@@ -53,13 +53,13 @@ pub(crate) struct Ways {
 impl Ways {
     pub fn new(alloc: Global, vertices: u32) -> Result<Ways, AllocError> {
         Ok(Ways {
-            part: Part {
+            part: OrderedComponent {
                 begin: 0,
                 heads: 0,
                 end: 0,
             },
-            out: Way::NOWHERE,
-            found: vec![in alloc; Found::NOT; vertices as usize]?,
+            out: ExitEdge::NOWHERE,
+            found: vec![in alloc; Visit::NOT; vertices as usize]?,
             turn: 0,
             fore: Vec::new(alloc),
             back: Vec::new(alloc),
@@ -70,8 +70,8 @@ impl Ways {
     }
 
     #[inline(always)]
-    fn found(&self, v: u32) -> Found {
-        item(&self.found, v, Found::NOT)
+    fn found(&self, v: u32) -> Visit {
+        item(&self.found, v, Visit::NOT)
     }
 
     /// Returns the claims in their order.
@@ -86,7 +86,7 @@ impl Ways {
         if row == ZEROS || found.row == row {
             return Ok(());
         }
-        put(&mut self.found, v, Found { row, ..found });
+        put(&mut self.found, v, Visit { row, ..found });
         self.claims.push(RowClaim {
             vertex: v,
             row,
@@ -96,7 +96,7 @@ impl Ways {
     }
 
     /// Begins a part with its greatest way out.
-    pub fn begin(&mut self, part: Part, out: Way) -> Result<(), AllocError> {
+    pub fn begin(&mut self, part: OrderedComponent, out: ExitEdge) -> Result<(), AllocError> {
         self.part = part;
         self.out = out;
         self.back.clear();
@@ -106,7 +106,7 @@ impl Ways {
 
     /// Notes that the way out is known from a vertex, and goes on to `next`.
     fn find_back(&mut self, v: u32, next: u32) -> Result<(), AllocError> {
-        let found = Found {
+        let found = Visit {
             part: self.part.begin,
             next,
             ..self.found(v)
@@ -118,7 +118,7 @@ impl Ways {
 
     /// Notes that the search forward found `v` from `before`.
     fn find_fore(&mut self, v: u32, before: u32) -> Result<(), AllocError> {
-        let found = Found {
+        let found = Visit {
             turn: self.turn,
             before,
             ..self.found(v)

@@ -6,9 +6,9 @@ mod arranging;
 mod chains;
 mod components;
 mod numbers;
-mod rows;
+mod target_rows;
 
 pub use arranging::{Arranged, Placed, arrange};
 pub use components::{Components, Edges};
 pub use numbers::{NONE, at, between, count, from, put};
-pub use rows::TargetRows;
+pub use target_rows::TargetRows;

@@ -7,7 +7,7 @@
 //! again. In the end all vertices are justified.
 
 use crate::graph::Graph;
-use crate::table::{FIRST, Table, WAITING};
+use crate::table::{FIRST, RegionTable, WAITING};
 use pg_search_components::{NONE, at, put};
 use std::alloc::{AllocError, Global};
 
@@ -116,7 +116,7 @@ impl Fixpoint {
     pub fn run(
         &mut self,
         graph: &Graph,
-        table: &mut Table,
+        table: &mut RegionTable,
         part: &[u32],
         looks: u64,
     ) -> Result<bool, AllocError> {
@@ -136,7 +136,7 @@ impl Fixpoint {
     }
 
     /// Puts each vertex into its winner's region, and sets what is chosen there.
-    fn show(&self, table: &mut Table, part: &[u32]) {
+    fn show(&self, table: &mut RegionTable, part: &[u32]) {
         for v in part {
             table.mark(*v, FIRST.saturating_add(at(&self.values, *v) % 2));
             put(&mut table.choices, *v, at(&self.choices, *v));
@@ -144,7 +144,12 @@ impl Fixpoint {
     }
 
     /// Justifies the value of a vertex, or changes it.
-    fn justify(&mut self, graph: &Graph, table: &mut Table, v: u32) -> Result<(), AllocError> {
+    fn justify(
+        &mut self,
+        graph: &Graph,
+        table: &mut RegionTable,
+        v: u32,
+    ) -> Result<(), AllocError> {
         let owner = graph.owner(v);
         let row = graph.successors(v);
         table.look(row.len().saturating_add(1));
@@ -171,7 +176,7 @@ impl Fixpoint {
     fn begin_again(
         &mut self,
         graph: &Graph,
-        table: &mut Table,
+        table: &mut RegionTable,
         value: u32,
     ) -> Result<(), AllocError> {
         for next in 0..usize::MAX {

@@ -8,14 +8,14 @@
 //! The only cycles that are ever closed are those that Even wins; so Even wins what never stops in the end, and Odd wins the rest.
 
 use crate::graph::Graph;
-use crate::table::{FIRST, Table, WAITING};
+use crate::table::{FIRST, RegionTable, WAITING};
 use pg_search_components::{NONE, at, count, put};
 use std::alloc::{AllocError, Global};
 
 /// A node of a tree with a count at each leaf, which keeps it on the left. Trees share nodes. The sum tells trees apart: it adds up
 /// a number for each count.
 #[derive(Clone, Copy)]
-struct Node {
+struct CountNode {
     left: u32,
     right: u32,
     sum: u64,
@@ -24,7 +24,7 @@ struct Node {
 /// The tree of zeros, and each part of that tree.
 const ZERO: u32 = 0;
 
-const ZEROS: Node = Node {
+const ZEROS: CountNode = CountNode {
     left: ZERO,
     right: ZERO,
     sum: 0,
@@ -45,7 +45,7 @@ pub(crate) struct Improvement {
     leaves: Vec<u32>,
     half: u32,
     /// All nodes of trees; the first one is the tree of zeros.
-    nodes: Vec<Node>,
+    nodes: Vec<CountNode>,
     /// The tree that is the worth of each vertex.
     worths: Vec<u32>,
     /// What the owner of each vertex chooses, and 1 for each vertex before which Even doesn't stop.
@@ -78,7 +78,7 @@ impl Improvement {
     }
 
     /// Begins with a part, whose vertices are given by rising priority. At first Even stops everywhere.
-    pub fn begin(&mut self, graph: &Graph, table: &Table, part: &[u32]) {
+    pub fn begin(&mut self, graph: &Graph, table: &RegionTable, part: &[u32]) {
         let leaves = graph.compress(part, &mut self.leaves);
         for v in part {
             let choice = table.first_from(graph.successors(*v), WAITING);
@@ -98,7 +98,7 @@ impl Improvement {
     pub fn run(
         &mut self,
         graph: &Graph,
-        table: &mut Table,
+        table: &mut RegionTable,
         part: &[u32],
         looks: u64,
     ) -> Result<bool, AllocError> {
@@ -122,7 +122,7 @@ impl Improvement {
     }
 
     /// Puts each vertex into its winner's region, and sets what is chosen there.
-    fn show(&self, table: &mut Table, part: &[u32]) {
+    fn show(&self, table: &mut RegionTable, part: &[u32]) {
         for v in part {
             let loser_is_even = at(&self.worths, *v) != FOREVER;
             table.mark(*v, FIRST.saturating_add(u32::from(loser_is_even)));
@@ -130,7 +130,7 @@ impl Improvement {
         }
     }
 
-    fn node(&self, number: u32) -> Node {
+    fn node(&self, number: u32) -> CountNode {
         self.nodes.get(number as usize).copied().unwrap_or(ZEROS)
     }
 
@@ -252,7 +252,13 @@ impl Improvement {
     }
 
     /// Lets a player choose what is best for it. Returns whether any choice is new.
-    fn switch(&mut self, graph: &Graph, table: &mut Table, part: &[u32], player: u32) -> bool {
+    fn switch(
+        &mut self,
+        graph: &Graph,
+        table: &mut RegionTable,
+        part: &[u32],
+        player: u32,
+    ) -> bool {
         let mut is_new = false;
         for v in part {
             if graph.owner(*v) != player {

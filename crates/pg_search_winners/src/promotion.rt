@@ -7,13 +7,13 @@
 //! player wins the region.
 
 use crate::graph::Graph;
-use crate::table::{Attraction, FIRST, FREE, Table};
+use crate::table::{Attraction, FIRST, FREE, RegionTable};
 use pg_search_components::{NONE, at, count, from, put};
 use std::alloc::{AllocError, Global};
 
 /// A region of a player.
 #[derive(Clone, Copy)]
-struct Region {
+struct PromotedRegion {
     player: u32,
     /// Its place on the stack, from `FIRST` on, which marks its vertices.
     mark: u32,
@@ -27,18 +27,18 @@ struct Region {
 #[derive(Drop)]
 pub(crate) struct Promotion {
     /// What is known of the vertices here: who won them, or which region they are in.
-    table: Table,
+    table: RegionTable,
     /// The place after the next head in the part.
     place: u32,
     /// The regions, and the vertices of all of them.
-    regions: Vec<Region>,
+    regions: Vec<PromotedRegion>,
     vertices: Vec<u32>,
 }
 
 impl Promotion {
     pub fn new(alloc: Global, graph: &Graph) -> Result<Promotion, AllocError> {
         Ok(Promotion {
-            table: Table::new(alloc, graph)?,
+            table: RegionTable::new(alloc, graph)?,
             place: 0,
             regions: Vec::new(alloc),
             vertices: Vec::new(alloc),
@@ -71,7 +71,7 @@ impl Promotion {
     pub fn run(
         &mut self,
         graph: &Graph,
-        table: &mut Table,
+        table: &mut RegionTable,
         part: &[u32],
         looks: u64,
     ) -> Result<bool, AllocError> {
@@ -97,7 +97,7 @@ impl Promotion {
     }
 
     /// Puts each vertex into its winner's region, and sets what is chosen there.
-    fn show(&self, table: &mut Table, part: &[u32]) {
+    fn show(&self, table: &mut RegionTable, part: &[u32]) {
         for v in part {
             table.mark(*v, FIRST.saturating_add(self.table.region(*v)));
             put(&mut table.choices, *v, at(&self.table.choices, *v));
@@ -107,7 +107,7 @@ impl Promotion {
     /// Makes the next region. Returns false if no vertex is free.
     fn descend(&mut self, graph: &Graph, part: &[u32]) -> Result<bool, AllocError> {
         let before = self.place;
-        let mut region = Region {
+        let mut region = PromotedRegion {
             player: 0,
             mark: FIRST.saturating_add(count(self.regions.len())),
             begin: self.vertices.len(),
@@ -140,7 +140,12 @@ impl Promotion {
     }
 
     /// Attracts free vertices to the vertices of the last region, from a place on.
-    fn attract(&mut self, graph: &Graph, region: Region, from: usize) -> Result<(), AllocError> {
+    fn attract(
+        &mut self,
+        graph: &Graph,
+        region: PromotedRegion,
+        from: usize,
+    ) -> Result<(), AllocError> {
         let attraction = Attraction {
             player: region.player,
             low: FREE,
@@ -151,7 +156,7 @@ impl Promotion {
     }
 
     /// Whether the last region is closed, which its heads decide. If it is, the choices of its player at the heads are set.
-    fn is_closed(&mut self, graph: &Graph, region: Region) -> bool {
+    fn is_closed(&mut self, graph: &Graph, region: PromotedRegion) -> bool {
         for head in from(&self.vertices, region.begin).iter().take(region.heads) {
             let row = graph.successors(*head);
             self.table.look(row.len());
@@ -177,7 +182,7 @@ impl Promotion {
 
     /// Returns the mark of the last of the earlier regions to which the opponent can go from the last region, or 0 if there is
     /// none.
-    fn way_out(&mut self, graph: &Graph, region: Region) -> u32 {
+    fn way_out(&mut self, graph: &Graph, region: PromotedRegion) -> u32 {
         let mut way = 0;
         for v in from(&self.vertices, region.begin) {
             if graph.owner(*v) == region.player {
@@ -199,7 +204,12 @@ impl Promotion {
     }
 
     /// Joins the last region to an earlier one, and frees what is between.
-    fn promote(&mut self, graph: &Graph, region: Region, mark: u32) -> Result<(), AllocError> {
+    fn promote(
+        &mut self,
+        graph: &Graph,
+        region: PromotedRegion,
+        mark: u32,
+    ) -> Result<(), AllocError> {
         let level = mark.saturating_sub(FIRST) as usize;
         let end = match self.regions.get(level.saturating_add(1)) {
             Some(next) => next.begin,
@@ -227,7 +237,12 @@ impl Promotion {
     }
 
     /// Gives a region to its player, with all that the region attracts, and begins again with the rest.
-    fn win(&mut self, graph: &Graph, part: &[u32], region: Region) -> Result<(), AllocError> {
+    fn win(
+        &mut self,
+        graph: &Graph,
+        part: &[u32],
+        region: PromotedRegion,
+    ) -> Result<(), AllocError> {
         let player = region.player;
         for v in from(&self.vertices, region.begin) {
             self.table.mark(*v, player);

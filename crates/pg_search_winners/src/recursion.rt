@@ -14,14 +14,14 @@
 
 use crate::graph::Graph;
 use crate::lists::{Links, List, Sides};
-use crate::table::{Attraction, FIRST, FREE, Table};
+use crate::table::{Attraction, FIRST, FREE, RegionTable};
 use pg_search_components::{NONE, at, count, from, put};
 use std::alloc::{AllocError, Global};
 use std::mem;
 
 /// A level that has begun.
 #[derive(Clone, Copy)]
-struct Level {
+struct RecursionLevel {
     player: u32,
     /// The least region of its game: the region of what it attracts for Even. The remainder of a region by 2 is the player whose
     /// region it is.
@@ -39,7 +39,7 @@ struct Level {
     won: Sides,
 }
 
-impl Level {
+impl RecursionLevel {
     /// Returns the region of what it attracts.
     #[inline(always)]
     fn mark(&self) -> u32 {
@@ -60,7 +60,7 @@ impl Level {
 
     /// Returns a successor of a vertex in the game of this level that a player has, or `NONE`.
     #[inline(always)]
-    fn choice(&self, graph: &Graph, table: &mut Table, v: u32, player: u32) -> u32 {
+    fn choice(&self, graph: &Graph, table: &mut RegionTable, v: u32, player: u32) -> u32 {
         let row = graph.successors(v);
         table.look(row.len());
         for w in row {
@@ -86,7 +86,7 @@ pub(crate) struct Recursion {
     from: u32,
     to: u32,
     place: u32,
-    levels: Vec<Level>,
+    levels: Vec<RecursionLevel>,
     /// The least region of the last level that began.
     base: u32,
     /// The vertices that all levels attracted, and the heads among them.
@@ -180,7 +180,7 @@ impl Recursion {
     pub fn run(
         &mut self,
         graph: &Graph,
-        table: &mut Table,
+        table: &mut RegionTable,
         looks: u64,
     ) -> Result<Option<Sides>, AllocError> {
         let most = table.looks.saturating_add(looks);
@@ -201,7 +201,7 @@ impl Recursion {
     }
 
     /// Returns the free vertex of the greatest priority, or `NONE`.
-    fn next_head(&mut self, table: &mut Table) -> u32 {
+    fn next_head(&mut self, table: &mut RegionTable) -> u32 {
         let before = self.place;
         let mut head = NONE;
         for place in (self.from..before).rev() {
@@ -217,9 +217,9 @@ impl Recursion {
     }
 
     /// Begins a level.
-    fn descend(&mut self, graph: &Graph, table: &mut Table) -> Result<(), AllocError> {
+    fn descend(&mut self, graph: &Graph, table: &mut RegionTable) -> Result<(), AllocError> {
         self.base = self.base.saturating_add(STEP);
-        let level = Level {
+        let level = RecursionLevel {
             player: graph.priority(self.next_head(table)) % 2,
             base: self.base,
             least: 0,
@@ -238,8 +238,8 @@ impl Recursion {
     fn fill(
         &mut self,
         graph: &Graph,
-        table: &mut Table,
-        level: Level,
+        table: &mut RegionTable,
+        level: RecursionLevel,
         low: u32,
     ) -> Result<(), AllocError> {
         let mut level = level;
@@ -264,7 +264,7 @@ impl Recursion {
     fn take_heads(
         &mut self,
         graph: &Graph,
-        table: &mut Table,
+        table: &mut RegionTable,
         priority: u32,
         mark: u32,
     ) -> Result<(), AllocError> {
@@ -285,7 +285,12 @@ impl Recursion {
     }
 
     /// Ends the last level, or begins it again.
-    fn end(&mut self, graph: &Graph, table: &mut Table, level: Level) -> Result<(), AllocError> {
+    fn end(
+        &mut self,
+        graph: &Graph,
+        table: &mut RegionTable,
+        level: RecursionLevel,
+    ) -> Result<(), AllocError> {
         let mut level = level;
         let many = self.take(graph, table, &mut level)?;
         self.is_ending = self.taken.len() == many;
@@ -304,8 +309,8 @@ impl Recursion {
     fn take(
         &mut self,
         graph: &Graph,
-        table: &mut Table,
-        level: &mut Level,
+        table: &mut RegionTable,
+        level: &mut RecursionLevel,
     ) -> Result<usize, AllocError> {
         let opponent = level.player ^ 1;
         let piece = self.won.of(opponent);
@@ -339,7 +344,12 @@ impl Recursion {
     }
 
     /// Takes the vertices of a list, and puts them into a region.
-    fn take_list(&mut self, table: &mut Table, list: List, mark: u32) -> Result<(), AllocError> {
+    fn take_list(
+        &mut self,
+        table: &mut RegionTable,
+        list: List,
+        mark: u32,
+    ) -> Result<(), AllocError> {
         let mut v = list.first;
         for _ in 0..list.len {
             self.taken.push(v)?;
@@ -355,8 +365,8 @@ impl Recursion {
     fn find_lost(
         &mut self,
         graph: &Graph,
-        table: &mut Table,
-        level: Level,
+        table: &mut RegionTable,
+        level: RecursionLevel,
     ) -> Result<(), AllocError> {
         let opponent = level.player ^ 1;
         for v in from(&self.heads, level.heads) {
@@ -378,7 +388,7 @@ impl Recursion {
 
     /// Makes sure that what the opponent of a level won above it is in regions before the level: either that or the rest is marked
     /// anew.
-    fn leave_behind(&mut self, table: &mut Table, level: &mut Level, piece: List) {
+    fn leave_behind(&mut self, table: &mut RegionTable, level: &mut RecursionLevel, piece: List) {
         let block = from(&self.attracted, level.attracted);
         let mine = self.won.of(level.player);
         if (piece.len as usize) < block.len().saturating_add(mine.len as usize) {
@@ -395,7 +405,7 @@ impl Recursion {
     }
 
     /// Puts the vertices of a list into a region.
-    fn mark_list(&self, table: &mut Table, list: List, mark: u32) {
+    fn mark_list(&self, table: &mut RegionTable, list: List, mark: u32) {
         let mut v = list.first;
         for _ in 0..list.len {
             table.mark(v, mark);
@@ -408,8 +418,8 @@ impl Recursion {
     fn attract_anew(
         &mut self,
         graph: &Graph,
-        table: &mut Table,
-        level: Level,
+        table: &mut RegionTable,
+        level: RecursionLevel,
     ) -> Result<(), AllocError> {
         self.free.clear();
         for v in from(&self.attracted, level.attracted) {
@@ -434,8 +444,8 @@ impl Recursion {
     fn loosen(
         &mut self,
         graph: &Graph,
-        table: &mut Table,
-        level: Level,
+        table: &mut RegionTable,
+        level: RecursionLevel,
         many: usize,
     ) -> Result<(), AllocError> {
         for place in many..self.taken.len() {
@@ -459,8 +469,8 @@ impl Recursion {
     fn free_before(
         &mut self,
         graph: &Graph,
-        table: &mut Table,
-        level: Level,
+        table: &mut RegionTable,
+        level: RecursionLevel,
         target: u32,
     ) -> Result<(), AllocError> {
         let predecessors = graph.predecessors(target);
@@ -479,7 +489,12 @@ impl Recursion {
     }
 
     /// Keeps what a level's player won above it and that isn't free, with what that attracts.
-    fn keep(&mut self, graph: &Graph, table: &mut Table, level: Level) -> Result<(), AllocError> {
+    fn keep(
+        &mut self,
+        graph: &Graph,
+        table: &mut RegionTable,
+        level: RecursionLevel,
+    ) -> Result<(), AllocError> {
         let player = level.player;
         let mut won = Sides::EMPTY;
         let kept = self.won.of(player);
@@ -517,7 +532,7 @@ impl Recursion {
 
     /// Lists the free vertices by rising priority after the order of a level if they are few; otherwise they are found in that
     /// order.
-    fn list(&mut self, graph: &Graph, level: Level) -> Result<(), AllocError> {
+    fn list(&mut self, graph: &Graph, level: RecursionLevel) -> Result<(), AllocError> {
         self.order.truncate(level.to as usize);
         self.from = level.from;
         self.to = level.to;
@@ -533,7 +548,7 @@ impl Recursion {
     }
 
     /// Gives a level to its player: the heads, what they attract, and what the player won above it.
-    fn win(&mut self, graph: &Graph, table: &mut Table, level: Level) {
+    fn win(&mut self, graph: &Graph, table: &mut RegionTable, level: RecursionLevel) {
         let player = level.player;
         for head in from(&self.heads, level.heads) {
             if graph.owner(*head) == player {

@@ -7,7 +7,7 @@
 //! aren't lifted to top.
 
 use crate::graph::Graph;
-use crate::table::{FIRST, Table, WAITING};
+use crate::table::{FIRST, RegionTable, WAITING};
 use pg_search_components::{NONE, at, between, count, put};
 use std::alloc::{AllocError, Global};
 
@@ -67,7 +67,7 @@ impl<'a> Succinct<'a> {
     }
 
     /// Returns the successor of a vertex that is best for its owner.
-    fn best(&self, table: &Table, player: u32, v: u32) -> u32 {
+    fn best(&self, table: &RegionTable, player: u32, v: u32) -> u32 {
         let mut best = NONE;
         for w in self.graph.successors(v) {
             let is_less = self.measure(player, *w) < self.measure(player, best);
@@ -117,7 +117,7 @@ impl<'a> Succinct<'a> {
     }
 
     /// Lifts a vertex. Returns whether it rises.
-    fn lift(&mut self, table: &Table, player: u32, v: u32) -> Result<bool, AllocError> {
+    fn lift(&mut self, table: &RegionTable, player: u32, v: u32) -> Result<bool, AllocError> {
         let from = self.place(player, self.best(table, player, v));
         let to = self.place(player, v);
         self.next.clear();
@@ -142,7 +142,12 @@ impl<'a> Succinct<'a> {
 
     /// Continues with the part until nothing rises any more, and then puts each vertex into its winner's region. Returns false if
     /// that takes more than `looks` looks.
-    pub fn run(&mut self, table: &mut Table, part: &[u32], looks: u64) -> Result<bool, AllocError> {
+    pub fn run(
+        &mut self,
+        table: &mut RegionTable,
+        part: &[u32],
+        looks: u64,
+    ) -> Result<bool, AllocError> {
         let most = table.looks.saturating_add(looks);
         let mut rises = true;
         for _ in 0..u64::MAX {

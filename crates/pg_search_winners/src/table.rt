@@ -24,7 +24,7 @@ pub(crate) struct Attraction {
 }
 
 #[derive(Drop)]
-pub(crate) struct Table {
+pub(crate) struct RegionTable {
     pub regions: Vec<u32>,
     /// What the winner, or the player who may become it, chooses at each vertex.
     pub choices: Vec<u32>,
@@ -36,13 +36,13 @@ pub(crate) struct Table {
     seen: u32,
 }
 
-impl Table {
+impl RegionTable {
     /// Makes a table in which all vertices wait.
-    pub fn new(alloc: Global, graph: &Graph) -> Result<Table, AllocError> {
+    pub fn new(alloc: Global, graph: &Graph) -> Result<RegionTable, AllocError> {
         let all = graph.len() as usize;
         let is_wide = (0..graph.len()).any(|v| graph.successors(v).len() > NARROW);
         let hints = if is_wide { all } else { 0 };
-        Ok(Table {
+        Ok(RegionTable {
             regions: vec![in alloc; WAITING; all]?,
             choices: vec![in alloc; NONE; all]?,
             hints: vec![in alloc; 0; hints]?,

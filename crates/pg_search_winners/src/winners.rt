@@ -1,7 +1,7 @@
 //! The winners of a graph.
 
 use crate::graph::Graph;
-use crate::solver::{Orders, Solver};
+use crate::solver::{Orders, WinnersSearch};
 use pg_arena::Player;
 use pg_check_order::Span;
 use pg_search_components::{NONE, at, count, put};
@@ -44,7 +44,7 @@ pub struct WinningOrder {
 
 /// Finds the winners of a graph in which each vertex has a successor.
 pub fn find_winners(alloc: Global, graph: &Graph) -> Result<Winners, AllocError> {
-    let mut solver = Solver::new(alloc, graph)?;
+    let mut solver = WinnersSearch::new(alloc, graph)?;
     solver.run()?;
     let (table, orders) = solver.into_parts();
     let spans = find_spans(alloc, graph.priorities(), &orders)?;
@@ -73,7 +73,7 @@ pub fn find_winners(alloc: Global, graph: &Graph) -> Result<Winners, AllocError>
 
 /// Finds the winners of a graph in which each vertex has a successor, in one order. The graph is freed as soon as they are found.
 pub fn find_order(alloc: Global, graph: Graph) -> Result<WinningOrder, AllocError> {
-    let mut solver = Solver::new(alloc, &graph)?;
+    let mut solver = WinnersSearch::new(alloc, &graph)?;
     solver.run()?;
     let (table, orders) = solver.into_parts();
     let spans = find_spans(alloc, &graph.into_priorities(), &orders)?;

@@ -47,7 +47,7 @@ impl WantedNet {
 
 /// A circuit that is being made.
 #[derive(Drop)]
-struct Draft<'a> {
+struct NetDraft<'a> {
     free: &'a Freedom,
     codes: &'a Codes,
     net: Net,
@@ -65,7 +65,7 @@ pub fn circuit_of(
 ) -> Allocated<Option<WantedNet>> {
     let alloc = *free.nexts.allocator();
     let given = given_values(alloc, free, codes)?;
-    let mut draft = Draft {
+    let mut draft = NetDraft {
         free,
         codes,
         net: Net::new(alloc, free.points().div_ceil(64), &given, *looks)?,
@@ -122,7 +122,7 @@ fn push(words: &mut Vec<u64>, place: u32, bit: bool) -> Allocated<()> {
     Ok(())
 }
 
-impl Draft<'_> {
+impl NetDraft<'_> {
     /// Returns a bit of a move: first come the bits of the output letter, then those of the next state's code.
     fn bit_of(&self, place: u32, bit: u32) -> bool {
         if bit < self.free.outputs {

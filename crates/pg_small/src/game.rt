@@ -131,7 +131,7 @@ pub fn winning_moves(steps: &mut Steps, looks: &mut u64) -> Allocated<Option<Vec
 fn graph_of(steps: &Steps) -> Allocated<Graph> {
     let points = steps.point(steps.states, 0);
     let answers = if steps.outputs == 0 { 0 } else { points };
-    let mut draft = Draft::new(steps, Player::Odd, answers)?;
+    let mut draft = GameDraft::new(steps, Player::Odd, answers)?;
     let rows = answers.max(steps.states).max(1);
     let letters = (steps.table.len() / rows as usize).max(1);
     for chunk in steps.table.chunks(letters) {
@@ -143,7 +143,7 @@ fn graph_of(steps: &Steps) -> Allocated<Graph> {
 
 /// A graph that is being made: states, then the choices of their owner, the end of runs, and then arrivals by steps.
 #[derive(Drop)]
-pub struct Draft {
+pub struct GameDraft {
     alloc: Global,
     owners: Vec<Player>,
     offsets: Vec<u32>,
@@ -154,9 +154,9 @@ pub struct Draft {
     pub row: Vec<GameStep>,
 }
 
-impl Draft {
+impl GameDraft {
     /// Begins a graph in which the states belong to `owner` and lead to `choices` vertices of the other player, as many each.
-    pub fn new(steps: &Steps, owner: Player, choices: u32) -> Allocated<Draft> {
+    pub fn new(steps: &Steps, owner: Player, choices: u32) -> Allocated<GameDraft> {
         let alloc = steps.alloc;
         let (target, priority) = (steps.states.saturating_add(choices), 1);
         let mut owners = vec![in alloc; owner; steps.states as usize]?;
@@ -170,7 +170,7 @@ impl Draft {
             }
             successors.push(steps.states.saturating_add(choice))?;
         }
-        Ok(Draft {
+        Ok(GameDraft {
             alloc,
             owners,
             offsets,
@@ -201,7 +201,7 @@ impl Draft {
 
     /// Returns the graph, once each vertex leads somewhere.
     pub fn graph(self) -> Allocated<Graph> {
-        let Draft {
+        let GameDraft {
             alloc,
             mut owners,
             mut offsets,

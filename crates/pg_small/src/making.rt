@@ -26,7 +26,7 @@ const WAYS: usize = 8;
 
 /// How a literal may serve.
 #[derive(Clone, Copy, PartialEq, Eq)]
-enum Way {
+enum LiteralUse {
     /// Its conjunction with something else.
     And,
     /// The negation of such a conjunction.
@@ -39,7 +39,7 @@ enum Way {
 #[derive(Clone, Copy)]
 struct Candidate {
     literal: u32,
-    way: Way,
+    way: LiteralUse,
     gain: u32,
 }
 
@@ -85,7 +85,7 @@ impl Net {
     #[cycle(making)]
     fn make_by(&mut self, best: Candidate, want: &Want, most: u32) -> Allocated<Option<u32>> {
         let Candidate { literal, way, .. } = best;
-        let cost = if way == Way::Choose { 3 } else { 1 };
+        let cost = if way == LiteralUse::Choose { 3 } else { 1 };
         if most == 0 || most < cost {
             return Ok(None);
         }
@@ -94,8 +94,8 @@ impl Net {
         let Some(then) = self.make(&rest, (most - cost).min(most - 1))? else {
             return Ok(None);
         };
-        if way != Way::Choose {
-            let negated = (way == Way::Nand) as u32;
+        if way != LiteralUse::Choose {
+            let negated = (way == LiteralUse::Nand) as u32;
             return Ok(Some(self.and(literal, then ^ negated)? ^ negated));
         }
         let used = self.len().saturating_sub(mark).saturating_add(3);
@@ -151,15 +151,21 @@ impl Net {
     }
 
     /// Returns what is wanted besides a literal that serves in a way.
-    fn rest(&self, want: &Want, way: Way, literal: u32) -> Allocated<Want> {
+    fn rest(&self, want: &Want, way: LiteralUse, literal: u32) -> Allocated<Want> {
         let mut rest = Want::new(self.alloc);
         let wants = want.on.iter().zip(&want.off);
         for (word, (on, off)) in self.values(literal / 2).iter().zip(wants) {
             let word = *word ^ flip(literal);
-            rest.on
-                .push(if way == Way::And { *on } else { *on & word })?;
-            rest.off
-                .push(if way == Way::Nand { *off } else { *off & word })?;
+            rest.on.push(if way == LiteralUse::And {
+                *on
+            } else {
+                *on & word
+            })?;
+            rest.off.push(if way == LiteralUse::Nand {
+                *off
+            } else {
+                *off & word
+            })?;
         }
         Ok(rest)
     }
@@ -176,11 +182,11 @@ impl Net {
         }
         let literal = signal.saturating_mul(2);
         let (literal, way) = match (on_zero, on_one, off_one, off_zero) {
-            (0, _, _, _) => (literal, Way::And),
-            (_, 0, _, _) => (literal | 1, Way::And),
-            (_, _, 0, _) => (literal | 1, Way::Nand),
-            (_, _, _, 0) => (literal, Way::Nand),
-            _ => (literal, Way::Choose),
+            (0, _, _, _) => (literal, LiteralUse::And),
+            (_, 0, _, _) => (literal | 1, LiteralUse::And),
+            (_, _, 0, _) => (literal | 1, LiteralUse::Nand),
+            (_, _, _, 0) => (literal, LiteralUse::Nand),
+            _ => (literal, LiteralUse::Choose),
         };
         let on_true = shared(&want.on, values, flip(literal));
         let off_true = shared(&want.off, values, flip(literal));
@@ -188,7 +194,7 @@ impl Net {
         let off_false = off.saturating_sub(off_true);
         let mut left = pairs(on_true, off_true);
         let mut cost = 1;
-        if way == Way::Choose {
+        if way == LiteralUse::Choose {
             left = left.saturating_add(pairs(on_false, off_false));
             cost = if signal < self.given { 3 } else { u32::MAX };
         }

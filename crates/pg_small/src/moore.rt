@@ -3,7 +3,7 @@
 use crate::circuit::{WantedNet, circuit_of};
 use crate::codes::{Codes, Columns};
 use crate::freedom::Freedom;
-use crate::game::Draft;
+use crate::game::GameDraft;
 use crate::machine::Machine;
 use crate::merging::merged;
 use crate::numbers::{Allocated, at, count, power};
@@ -47,7 +47,7 @@ pub fn propose_moore(
 fn letters_of(steps: &Steps) -> Allocated<Option<Vec<u32>>> {
     let pairs = steps.states.wrapping_shl(steps.outputs);
     let last = power(steps.outputs).wrapping_sub(1);
-    let mut draft = Draft::new(steps, Player::Even, pairs)?;
+    let mut draft = GameDraft::new(steps, Player::Even, pairs)?;
     for pair in 0..pairs {
         let first = steps.point(pair.wrapping_shr(steps.outputs), 0);
         for input in 0..power(steps.inputs) {

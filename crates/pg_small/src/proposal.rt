@@ -93,7 +93,7 @@ fn small_machine(steps: &Steps, moves: Vec<bool>) -> Allocated<Machine> {
 
 /// A circuit, and what it is made of.
 #[derive(Drop)]
-struct Draft {
+struct CircuitDraft {
     free: Freedom,
     codes: Codes,
     /// The order in which the outputs are made.
@@ -102,9 +102,9 @@ struct Draft {
 }
 
 /// Returns the smaller one of the circuits with codes by parts and with counted codes, if there is one.
-fn best_draft(steps: &Steps, machine: &Machine) -> Allocated<Option<Draft>> {
+fn best_draft(steps: &Steps, machine: &Machine) -> Allocated<Option<CircuitDraft>> {
     let mut words = WORDS;
-    let mut best: Option<Draft> = None;
+    let mut best: Option<CircuitDraft> = None;
     for is_counted in [false, true] {
         let Some(mut draft) = draft_of(steps, machine, is_counted, &mut words)? else {
             continue;
@@ -124,7 +124,7 @@ fn draft_of(
     machine: &Machine,
     is_counted: bool,
     words: &mut u64,
-) -> Allocated<Option<Draft>> {
+) -> Allocated<Option<CircuitDraft>> {
     let mut looks = STEPS;
     let Some(free) = Freedom::of(machine, steps, &mut looks)? else {
         return Ok(None);
@@ -145,7 +145,7 @@ fn draft_of(
     let Some(circuit) = circuit_of(&free, &codes, (&order, codes.bits), words)? else {
         return Ok(None);
     };
-    Ok(Some(Draft {
+    Ok(Some(CircuitDraft {
         free,
         codes,
         order,
@@ -153,7 +153,7 @@ fn draft_of(
     }))
 }
 
-impl Draft {
+impl CircuitDraft {
     /// Tries other codes and orders of outputs, as the dice fall, as long as that takes little.
     fn search(&mut self) -> Allocated<()> {
         let mut dice = Dice::new();

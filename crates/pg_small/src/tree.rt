@@ -14,14 +14,14 @@ const MOST_ROWS: u32 = 1 << 20;
 
 /// Gates, whose variables come after `variables` others.
 #[derive(Drop)]
-struct Draft {
+struct TreeDraft {
     alloc: Global,
     variables: u32,
     gates: Vec<Conjunction>,
     known: BTreeMap<(u32, u32), u32>,
 }
 
-impl Draft {
+impl TreeDraft {
     /// Returns the conjunction of two literals.
     fn and(&mut self, x: u32, y: u32) -> Allocated<u32> {
         let (left, right) = (x.max(y), x.min(y));
@@ -88,7 +88,7 @@ pub fn tree_of(machine: &Machine, steps: &Steps) -> Allocated<Option<SmallCircui
         return Ok(None);
     }
     let bits = width(machine.states);
-    let mut draft = Draft {
+    let mut draft = TreeDraft {
         alloc: steps.alloc,
         variables: machine.inputs.saturating_add(bits),
         gates: Vec::new(steps.alloc),

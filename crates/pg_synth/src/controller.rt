@@ -66,7 +66,7 @@ fn controller(
     ensures { IfOk result (Follows automaton.now synth.now.game solution.now) }
 {
     let layout = layout_of(alloc, automaton)?;
-    let mut draft = Draft::new(alloc, automaton.start())?;
+    let mut draft = MachineDraft::new(alloc, automaton.start())?;
     let mut number = 0;
     while number < draft.states.len() {
         draft.push_row(automaton, &layout, synth, solution, number)?;
@@ -80,23 +80,23 @@ fn controller(
 
 /// A machine that is being built.
 #[derive(Drop)]
-struct Draft {
+struct MachineDraft {
     /// The automaton's states, by their numbers in the machine.
     states: IndexSet<u32>,
     /// The replies so far, state by state and input letter by input letter.
     replies: Vec<Reply>,
 }
 
-impl Draft {
+impl MachineDraft {
     /// Returns a draft without replies, in which only the initial state has a number.
-    fn new(alloc: Global, start: u32) -> Result<Draft, AllocError>
+    fn new(alloc: Global, start: u32) -> Result<MachineDraft, AllocError>
         ensures states { IfOk result (λ draft. draft.states.keys ≡ start ∷ []) }
         ensures replies { IfOk result (λ draft. draft.replies.items ≡ []) }
     {
         let mut states = IndexSet::new(alloc);
         states.insert(start)?;
         let replies = Vec::new(alloc);
-        Ok(Draft { states, replies })
+        Ok(MachineDraft { states, replies })
     }
 
     /// Appends the replies of the state with this number.

@@ -84,11 +84,11 @@ fn a_circuit_follows_its_machine(rt: HostRuntime) -> Result<(), Fail> {
 
 /// A writer that takes `room` bytes and then fails.
 #[derive(Drop)]
-struct Full {
+struct FullOutput {
     room: usize,
 }
 
-impl io::Write for Full {
+impl io::Write for FullOutput {
     fn write(&mut self, buf: &[u8]) -> io::Result<usize> {
         if self.room < buf.len() {
             return Err(io::Error::from(io::ErrorKind::WriteZero));
@@ -111,7 +111,7 @@ fn has_text(alloc: Global, made: &Made, text: &[u8]) -> Result<bool, AigerFault>
 
 /// Whether writing the circuit to a writer that takes `room` bytes fails.
 fn is_refused(made: &Made, room: usize) -> bool {
-    let mut full = Full { room };
+    let mut full = FullOutput { room };
     write_circuit(&made.circuit, &made.automaton, &mut full) == Err(AigerFault::Write)
 }
 

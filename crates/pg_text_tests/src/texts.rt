@@ -17,11 +17,11 @@ const SOLUTION_PRINTED: &[u8] = b"paritysol 4000000000;\n7 1 7;\n4000000000 1;\n
 
 /// A writer that takes `room` bytes and then fails.
 #[derive(Drop)]
-struct Full {
+struct FullText {
     room: usize,
 }
 
-impl io::Write for Full {
+impl io::Write for FullText {
     fn write(&mut self, buf: &[u8]) -> io::Result<usize> {
         if self.room < buf.len() {
             return Err(io::Error::from(io::ErrorKind::WriteZero));
@@ -43,7 +43,7 @@ fn a_game_is_read_and_printed_unless_the_writer_fails(rt: HostRuntime) -> Result
     assert_eq!(rt; out.as_slice(), GAME_PRINTED);
     for room in 0..GAME_PRINTED.len() {
         assert_eq!(rt;
-            write_game(&game, &mut Full { room }),
+            write_game(&game, &mut FullText { room }),
             Err(TextFault::Write)
         );
     }
@@ -61,7 +61,7 @@ fn a_solution_is_read_and_printed_unless_the_writer_fails(rt: HostRuntime) -> Re
     write_solution(&game, &solution, &mut out)?;
     assert_eq!(rt; out.as_slice(), SOLUTION_PRINTED);
     for room in 0..SOLUTION_PRINTED.len() {
-        let answer = write_solution(&game, &solution, &mut Full { room });
+        let answer = write_solution(&game, &solution, &mut FullText { room });
         assert_eq!(rt; answer, Err(TextFault::Write));
     }
     Ok(())

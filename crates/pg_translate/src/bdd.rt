@@ -20,7 +20,7 @@ struct Branch {
 
 /// The diagram of `test` and `then`, or not `test` and `other`.
 #[derive(Clone, Copy, PartialEq, Eq, Hash)]
-struct Choice {
+struct IfThenElse {
     test: u32,
     then: u32,
     other: u32,
@@ -28,10 +28,10 @@ struct Choice {
 
 /// A task on the way to the diagram of a choice.
 #[derive(Clone, Copy)]
-enum Task {
-    Look(Choice),
+enum DiagramTask {
+    Look(IfThenElse),
     /// Joins the last two diagrams by this variable.
-    Join(u32, Choice),
+    Join(u32, IfThenElse),
 }
 
 /// Diagrams. A branch leads to smaller numbers; the constants have no variable.
@@ -40,7 +40,7 @@ pub struct Bdd {
     alloc: Global,
     branches: IndexSet<Branch>,
     /// The choices that were made; `made` has the diagram of each.
-    choices: IndexSet<Choice>,
+    choices: IndexSet<IfThenElse>,
     made: Vec<u32>,
     steps: u64,
 }
@@ -108,7 +108,7 @@ impl Bdd {
     }
 
     /// Returns the diagram of a choice, if it is obvious or known.
-    fn known(&self, choice: Choice) -> Option<u32> {
+    fn known(&self, choice: IfThenElse) -> Option<u32> {
         match (choice.test, choice.then, choice.other) {
             (ALWAYS, then, _) => Some(then),
             (NEVER, _, other) => Some(other),
@@ -125,17 +125,17 @@ impl Bdd {
     pub fn choose(&mut self, test: u32, then: u32, other: u32) -> Attempt<u32> {
         let mut tasks = Vec::new(self.alloc);
         let mut done = Vec::new(self.alloc);
-        tasks.push(Task::Look(Choice { test, then, other }))?;
+        tasks.push(DiagramTask::Look(IfThenElse { test, then, other }))?;
         for _ in 0..u64::MAX {
             let Some(task) = tasks.pop() else {
                 break;
             };
             match task {
-                Task::Look(choice) => match self.known(choice) {
+                DiagramTask::Look(choice) => match self.known(choice) {
                     Some(known) => done.push(known)?,
                     None => self.part(choice, &mut tasks)?,
                 },
-                Task::Join(variable, choice) => {
+                DiagramTask::Join(variable, choice) => {
                     let high = done.pop().unwrap_or(NEVER);
                     let low = done.pop().unwrap_or(NEVER);
                     let joined = self.join(variable, low, high)?;
@@ -151,20 +151,20 @@ impl Bdd {
 
 impl Bdd {
     /// Splits a choice by its least variable, and pushes the tasks that this gives. Takes one step.
-    fn part(&mut self, choice: Choice, tasks: &mut Vec<Task>) -> Attempt<()> {
+    fn part(&mut self, choice: IfThenElse, tasks: &mut Vec<DiagramTask>) -> Attempt<()> {
         spend(&mut self.steps, 1)?;
-        let Choice { test, then, other } = choice;
+        let IfThenElse { test, then, other } = choice;
         let variable = self.top(test).min(self.top(then)).min(self.top(other));
         let (test_low, test_high) = self.cut(test, variable);
         let (then_low, then_high) = self.cut(then, variable);
         let (other_low, other_high) = self.cut(other, variable);
-        tasks.push(Task::Join(variable, choice))?;
-        tasks.push(Task::Look(Choice {
+        tasks.push(DiagramTask::Join(variable, choice))?;
+        tasks.push(DiagramTask::Look(IfThenElse {
             test: test_high,
             then: then_high,
             other: other_high,
         }))?;
-        tasks.push(Task::Look(Choice {
+        tasks.push(DiagramTask::Look(IfThenElse {
             test: test_low,
             then: then_low,
             other: other_low,

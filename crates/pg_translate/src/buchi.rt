@@ -12,7 +12,7 @@ use std::alloc::Global;
 
 /// Where an edge leads, and whether it accepts.
 #[derive(Clone, Copy)]
-struct Arc {
+struct BuchiEdge {
     target: u32,
     accepts: bool,
 }
@@ -20,7 +20,7 @@ struct Arc {
 /// Lists of edges, one for each state and letter.
 #[derive(Drop)]
 struct Arcs {
-    arcs: Vec<Arc>,
+    arcs: Vec<BuchiEdge>,
     /// Where the list of each state and letter ends.
     ends: Vec<u32>,
     letters: u32,
@@ -32,7 +32,7 @@ impl Arcs {
     }
 
     /// Returns the edges of a state at a letter.
-    fn of(&self, state: u32, letter: u32) -> &[Arc] {
+    fn of(&self, state: u32, letter: u32) -> &[BuchiEdge] {
         let place = state.saturating_mul(self.letters).saturating_add(letter);
         let begin = if place == 0 {
             0
@@ -43,7 +43,7 @@ impl Arcs {
     }
 
     /// Returns all edges of a state.
-    fn of_state(&self, state: u32) -> &[Arc] {
+    fn of_state(&self, state: u32) -> &[BuchiEdge] {
         let place = state.saturating_mul(self.letters);
         let begin = if place == 0 {
             0
@@ -168,7 +168,7 @@ fn counted(alloc: Global, sets: &Sets) -> Attempt<Arcs> {
                 let accepts = next >= 64;
                 let next = if accepts { 0 } else { next };
                 let target = states.number(&[count(choice.asks as usize), next])?;
-                found.arcs.push(Arc { target, accepts })?;
+                found.arcs.push(BuchiEdge { target, accepts })?;
             }
             found.ends.push(count(found.arcs.len()))?;
         }

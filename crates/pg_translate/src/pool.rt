@@ -46,7 +46,7 @@ impl Operator {
 
 /// An operator, and the number of the list of its operands.
 #[derive(Clone, Copy, PartialEq, Eq, Hash)]
-struct Node {
+struct PoolNode {
     operator: Operator,
     operands: u32,
 }
@@ -88,7 +88,7 @@ impl Followed {
 #[derive(Drop)]
 pub struct FormulaPool {
     pub alloc: Global,
-    nodes: IndexSet<Node>,
+    nodes: IndexSet<PoolNode>,
     lists: NumberedLists,
     facts: Vec<Facts>,
     negations: NumberMap,
@@ -110,10 +110,10 @@ impl FormulaPool {
         Ok(pool)
     }
 
-    fn node(&self, f: u32) -> Node {
+    fn node(&self, f: u32) -> PoolNode {
         match self.nodes.get_index(f as usize) {
             Some(node) => *node,
-            None => Node {
+            None => PoolNode {
                 operator: Operator::False,
                 operands: 0,
             },
@@ -135,7 +135,7 @@ impl FormulaPool {
     /// Returns the formula of an operator and operands, which is added if it is new.
     pub fn add(&mut self, operator: Operator, operands: &[u32]) -> Attempt<u32> {
         let operands = self.lists.number(operands)?;
-        let (number, is_new) = self.nodes.insert_full(Node { operator, operands })?;
+        let (number, is_new) = self.nodes.insert_full(PoolNode { operator, operands })?;
         if is_new {
             let facts = self.facts_of(operator, self.lists.list(operands));
             self.facts.push(facts)?;

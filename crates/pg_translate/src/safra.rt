@@ -15,12 +15,12 @@ const STEPS: u64 = 1 << 27;
 
 /// A node: the place of its parent, and the states of its label as bits.
 #[derive(Drop)]
-struct Node {
+struct SafraNode {
     parent: u32,
     label: Vec<u32>,
 }
 
-impl Node {
+impl SafraNode {
     fn is_empty(&self) -> bool {
         self.label.iter().all(|word| *word == 0)
     }
@@ -36,7 +36,7 @@ impl Node {
 /// A tree: its nodes in the order of their age, the root first.
 #[derive(Drop)]
 struct Tree {
-    nodes: Vec<Node>,
+    nodes: Vec<SafraNode>,
 }
 
 /// Returns the states to which those of a label lead at a letter, by all edges or only by those that accept.
@@ -70,7 +70,7 @@ impl Tree {
         let mut nodes = Vec::new(alloc);
         for part in list.chunks((words as usize).saturating_add(1)) {
             if let Some((parent, label)) = part.split_first() {
-                nodes.push(Node {
+                nodes.push(SafraNode {
                     parent: *parent,
                     label: Vec::from_slice(alloc, label)?,
                 })?;
@@ -83,13 +83,13 @@ impl Tree {
     fn grown(&self, alloc: Global, buchi: &Buchi, letter: u32) -> Attempt<Tree> {
         let mut nodes = Vec::new(alloc);
         for node in &self.nodes {
-            nodes.push(Node {
+            nodes.push(SafraNode {
                 parent: node.parent,
                 label: image(alloc, buchi, &node.label, letter, false)?,
             })?;
         }
         for (place, node) in self.nodes.iter().enumerate() {
-            nodes.push(Node {
+            nodes.push(SafraNode {
                 parent: count(place),
                 label: image(alloc, buchi, &node.label, letter, true)?,
             })?;
@@ -120,7 +120,7 @@ impl Tree {
         let Some(node) = self.nodes.get(place as usize) else {
             return Ok(false);
         };
-        let mut rest = Node {
+        let mut rest = SafraNode {
             parent: 0,
             label: node.label.clone()?,
         };

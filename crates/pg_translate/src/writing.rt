@@ -15,7 +15,7 @@ struct Cube {
 
 /// A cube, the place at which the edges of its letters begin, and how many propositions aren't split yet.
 #[derive(Clone, Copy)]
-struct Part {
+struct CubePart {
     cube: Cube,
     from: u32,
     propositions: u32,
@@ -135,7 +135,7 @@ fn cubes(
     edges: &mut NumberedLists,
 ) -> Attempt<Vec<(u32, Cube)>> {
     let mut found = Vec::new(alloc);
-    let whole = Part {
+    let whole = CubePart {
         cube: Cube {
             said: 0,
             holding: 0,

@@ -42,7 +42,7 @@ impl Condition<'_> {
 
 /// A set of colours. Its children are the greatest subsets that are accepted if it isn't, and that aren't if it is.
 #[derive(Drop)]
-struct Node {
+struct ZielonkaNode {
     colours: u32,
     children: Vec<u32>,
     parent: u32,
@@ -59,7 +59,7 @@ pub struct Climb {
 /// A tree; its root is node 0.
 #[derive(Drop)]
 pub struct Tree {
-    nodes: Vec<Node>,
+    nodes: Vec<ZielonkaNode>,
     /// The priority of the root.
     greatest: u32,
 }
@@ -108,8 +108,8 @@ fn alternatives(
 impl Tree {
     /// Returns the tree of a condition over colours. The fixed ones of these are met on each cycle.
     pub fn new(alloc: Global, condition: &Condition, colours: u32, fixed: u32) -> Attempt<Tree> {
-        let mut nodes: Vec<Node> = Vec::new(alloc);
-        nodes.push(Node {
+        let mut nodes: Vec<ZielonkaNode> = Vec::new(alloc);
+        nodes.push(ZielonkaNode {
             colours,
             children: Vec::new(alloc),
             parent: 0,
@@ -127,7 +127,7 @@ impl Tree {
             let mut children = Vec::new(alloc);
             for subset in &found {
                 children.push(count(nodes.len()))?;
-                nodes.push(Node {
+                nodes.push(ZielonkaNode {
                     colours: *subset,
                     children: Vec::new(alloc),
                     parent: count(place),

@@ -12,12 +12,12 @@ use Rattle.std.proofs.lemmas.List.Elements.{All-push}
 use Rattle.std.proofs.lemmas.List.Quantifiers.{position-Some}
 use Rattle.std.proofs.lemmas.Map.Keys.{apart_from_distinct}
 use Rattle.indexmap.specs.IndexSet.{insert_key}
-use Rattle.pg_verify.specs.declared.rows.Row.{Row}
-use Rattle.pg_verify.specs.contracts.rows.RowPartialEq.TheImpl as impl
+use Rattle.pg_verify.specs.declared.states.ProductState.{ProductState}
+use Rattle.pg_verify.specs.contracts.states.ProductStatePartialEq.TheImpl as impl
 use Rattle.pg_aiger_netlist.specs.Steps.{spelt}
 use Rattle.pg_verify.specs.Mirrors.Products.{Pair, pair, pair_of, pair_at, AreWide, IsNumbered}
 
-abbrev pub same : Row → Row → Bool
+abbrev pub same : ProductState → ProductState → Bool
 same = (impl.eq-value).it
 
 same_bits : (xs ys : List Bool) → pointwise beq xs ys ≡ true → xs ≡ ys
@@ -43,7 +43,7 @@ one_spelling (true ∷ xs) (false ∷ ys) long e = absurd (omega arith)
 one_spelling (false ∷ xs) (true ∷ ys) long e = absurd (omega arith)
 
 -- rows that are the same stand for one state
-pub same_pair : (x y : Row) → same x y ≡ true → pair_of x ≡ pair_of y
+pub same_pair : (x y : ProductState) → same x y ≡ true → pair_of x ≡ pair_of y
 same_pair x y e =
     let both = and_parts (pointwise beq x.latches.items y.latches.items) (eqb x.state y.state) e in
     let bits : spelt x.latches.items ≡ spelt y.latches.items = ap spelt (same_bits x.latches.items y.latches.items both.0) in
@@ -51,14 +51,14 @@ same_pair x y e =
     ap (λ n. pair n x.state) bits ∙ ap (pair (spelt y.latches.items)) state
 
 -- and rows of one state, with as many latches, are the same
-pub pair_same : (x y : Row) → length x.latches.items ≡ length y.latches.items → pair_of x ≡ pair_of y → same x y ≡ true
+pub pair_same : (x y : ProductState) → length x.latches.items ≡ length y.latches.items → pair_of x ≡ pair_of y → same x y ≡ true
 pair_same x y long e =
     let bits : x.latches.items ≡ y.latches.items = one_spelling x.latches.items y.latches.items long (ap Pair.latches e) in
     let one : pointwise beq x.latches.items y.latches.items ≡ true = subst (λ l. pointwise beq x.latches.items l ≡ true) bits (bits_same x.latches.items) in
     let two : eqb x.state y.state ≡ true = eq-eqb x.state y.state (ap Pair.state e) in
     rw (one, two) refl
 
-distinct_by : (rows : List Row) (width : ℕ) (none : Row) → IsDistinct same rows → AreWide width rows → AllPairs (λ x y. x ≢ y) (map pair_of rows)
+distinct_by : (rows : List ProductState) (width : ℕ) (none : ProductState) → IsDistinct same rows → AreWide width rows → AllPairs (λ x y. x ≢ y) (map pair_of rows)
 distinct_by rows width none distinct wide i j d less below e =
     let n = length-map rows pair_of in
     let j_in : j < length rows = omega arith in
@@ -69,12 +69,12 @@ distinct_by rows width none distinct wide i j d less below e =
     let wrong : true ≡ false = sym yes ∙ no in cc wrong
 
 -- rows of one width that differ stand for states that differ
-pub distinct_pairs : (rows : List Row) (width : ℕ) → IsDistinct same rows → AreWide width rows → AllPairs (λ x y. x ≢ y) (map pair_of rows)
+pub distinct_pairs : (rows : List ProductState) (width : ℕ) → IsDistinct same rows → AreWide width rows → AllPairs (λ x y. x ≢ y) (map pair_of rows)
 distinct_pairs [] width distinct wide = λ i j d less below e. absurd (omega arith)
 distinct_pairs (row ∷ rows) width distinct wide = distinct_by (row ∷ rows) width row distinct wide
 
 -- a row that is found
-pub found : (rows : List Row) (row : Row) (number : ℕ) → Some number ≡ position (same row) rows
+pub found : (rows : List ProductState) (row : ProductState) (number : ℕ) → Some number ≡ position (same row) rows
     → IsNumbered (map pair_of rows) (spelt row.latches.items) row.state number (map pair_of rows)
 found rows row number e =
     let at = position-Some (same row) rows number row (sym e) in
@@ -86,7 +86,7 @@ found rows row number e =
     }
 
 -- a row that is put
-pub put : (rows after : List Row) (row copy stored : Row) (number : ℕ) → pair_of copy ≡ pair_of row → after ≡ insert_key same rows copy
+pub put : (rows after : List ProductState) (row copy stored : ProductState) (number : ℕ) → pair_of copy ≡ pair_of row → after ≡ insert_key same rows copy
     → number < length after → slice_get after number ≡ Some stored → same copy stored ≡ true
     → IsNumbered (map pair_of rows) (spelt row.latches.items) row.state number (map pair_of after)
 put rows after row copy stored number is keys below at alike = go (list_any (same copy) rows) refl
@@ -106,7 +106,7 @@ put rows after row copy stored number is keys below at alike = go (list_any (sam
       there = there;
     }
 
-pub put_wide : (rows after : List Row) (copy : Row) (width : ℕ) → length copy.latches.items ≡ width → AreWide width rows
+pub put_wide : (rows after : List ProductState) (copy : ProductState) (width : ℕ) → length copy.latches.items ≡ width → AreWide width rows
     → after ≡ insert_key same rows copy → AreWide width after
 put_wide rows after copy width long wide keys = go (list_any (same copy) rows) refl
   where

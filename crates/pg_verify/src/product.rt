@@ -11,7 +11,7 @@ ghost use Rattle.pg_verify.specs.Products.{IsProductOf};
 
 use crate::fault::VerifyFault;
 use crate::letters::count_inputs;
-use crate::rows::{Row, listed, number_of, set_row};
+use crate::states::{ProductState, listed, number_of, set_state};
 use crate::table::store;
 use indexmap::IndexSet;
 use pg_aiger_netlist::Netlist;
@@ -22,10 +22,10 @@ use std::collections::BTreeMap;
 
 /// The states so far, each once, and their steps, state by state and input letter by input letter.
 #[derive(Drop)]
-struct Draft {
-    rows: IndexSet<Row>,
+struct ProductDraft {
+    rows: IndexSet<ProductState>,
     /// The state that is being looked up.
-    wanted: Row,
+    wanted: ProductState,
     slots: Vec<u32>,
     steps: Vec<Stored>,
     lists: Vec<Vec<u32>>,
@@ -37,7 +37,7 @@ struct Draft {
 fn slot_for(
     alloc: Global,
     automaton: &Automaton,
-    draft: &mut Draft,
+    draft: &mut ProductDraft,
     latches: &[bool],
     state: u32,
     letter: u32,
@@ -55,7 +55,7 @@ fn slot_for(
     match automaton.next(state, letter) {
         None => Ok(0),
         Some((target, sets)) => {
-            set_row(&mut draft.wanted, latches, target)?;
+            set_state(&mut draft.wanted, latches, target)?;
             let number = number_of(alloc, &mut draft.rows, &draft.wanted)?;
             let slot = store(
                 alloc,
@@ -76,7 +76,7 @@ fn push_step(
     automaton: &Automaton,
     netlist: &Netlist,
     controllable: &[bool],
-    draft: &mut Draft,
+    draft: &mut ProductDraft,
     values: &[u64],
     latches: &mut [bool],
     k: usize,
@@ -115,7 +115,7 @@ fn push_step(
 }
 
 /// Fills the row with the values of a state's steps at 64 input letters, if `input` is the first of them.
-fn fill(netlist: &Netlist, rows: &[Row], k: usize, input: u32, values: &mut [u64])
+fn fill(netlist: &Netlist, rows: &[ProductState], k: usize, input: u32, values: &mut [u64])
     requires inputs { length netlist.now.inputs ≤ 16 }
     requires input { input < 65536 }
     requires state { k < length rows.now }
@@ -135,7 +135,7 @@ fn push_state(
     automaton: &Automaton,
     netlist: &Netlist,
     controllable: &[bool],
-    draft: &mut Draft,
+    draft: &mut ProductDraft,
     values: &mut [u64],
     latches: &mut [bool],
     k: usize,
@@ -181,26 +181,26 @@ fn push_state(
 }
 
 /// Returns the initial state, in which no latch is set.
-fn first_row(alloc: Global, latches: usize, state: u32) -> Result<Row, AllocError>
+fn first_row(alloc: Global, latches: usize, state: u32) -> Result<ProductState, AllocError>
     ensures wide { IfOk result (λ row. length row.latches.items ≡ latches) }
     ensures first { IfOk result (λ row. pair_of row ≡ pair 0 state) }
 {
     let values = vec![in alloc; false; latches]?;
-    Ok(Row {
+    Ok(ProductState {
         latches: values,
         state,
     })
 }
 
 /// Returns a draft with the initial state alone.
-fn first_draft(alloc: Global, latches: usize, state: u32) -> Result<Draft, AllocError>
+fn first_draft(alloc: Global, latches: usize, state: u32) -> Result<ProductDraft, AllocError>
     ensures wide { IfOk result (λ draft. AreWide latches draft.rows.keys) }
     ensures first { IfOk result (λ draft. map pair_of draft.rows.keys ≡ pair 0 state ∷ []) }
     ensures empty { IfOk result (λ draft. (draft.slots.items ≡ []) × (draft.steps.items ≡ []) × (draft.lists.items ≡ [])) }
 {
     let mut rows = IndexSet::new(alloc);
     rows.insert(first_row(alloc, latches, state)?)?;
-    Ok(Draft {
+    Ok(ProductDraft {
         rows,
         wanted: first_row(alloc, latches, state)?,
         slots: Vec::new(alloc),
@@ -225,7 +225,7 @@ fn explore(
     netlist: &Netlist,
     controllable: &[bool],
     letters: u32,
-) -> Result<Draft, VerifyFault>
+) -> Result<ProductDraft, VerifyFault>
     requires automaton { IsAutomaton automaton.now }
     requires marks { controllable.now ≡ automaton.now.controllable }
     requires inputs { length netlist.now.inputs ≡ inputs automaton.now.controllable }

@@ -79,7 +79,7 @@ fn exchanged(alloc: Global, automaton: &Automaton) -> Result<Vec<bool>, AllocErr
 
 /// Slots of steps, and the steps and lists that they stand for.
 #[derive(Drop)]
-struct Draft {
+struct StepsDraft {
     slots: Vec<u32>,
     steps: Vec<Stored>,
     lists: Vec<Vec<u32>>,
@@ -91,7 +91,7 @@ struct Draft {
 fn slot_for(
     alloc: Global,
     automaton: &Automaton,
-    draft: &mut Draft,
+    draft: &mut StepsDraft,
     state: u32,
     letter: u32,
     end: u32,
@@ -124,14 +124,14 @@ fn slot_for(
 }
 
 /// Returns the automaton's steps, and the steps at its end, state by state and letter by letter.
-fn filled(alloc: Global, automaton: &Automaton, width: u32) -> Result<Draft, AllocError>
+fn filled(alloc: Global, automaton: &Automaton, width: u32) -> Result<StepsDraft, AllocError>
     requires automaton { IsAutomaton automaton.now }
     requires width { width ≡ letters automaton.now }
     requires few { (automaton.now.states + 1) * width ≤ 16777216 }
     ensures { IfOk result (λ f. AreFilled automaton.now ((automaton.now.states + 1) * width) f.slots.items f.steps.items
         (map (λ v. v.items) f.lists.items)) }
 {
-    let mut draft = Draft {
+    let mut draft = StepsDraft {
         slots: Vec::new(alloc),
         steps: Vec::new(alloc),
         lists: Vec::new(alloc),
@@ -171,7 +171,7 @@ pub fn counterpart(alloc: Global, automaton: &Automaton) -> Result<Automaton, Ve
     if states >= MOST_STATES || (states + 1) * letters > MOST_STEPS {
         return Err(VerifyFault::TooLarge);
     }
-    let Draft {
+    let StepsDraft {
         slots,
         steps,
         lists,

@@ -7,13 +7,13 @@ use std::test::Fail;
 
 /// Hands over one byte at a time. The read with this number fails with this kind of error.
 #[derive(Drop)]
-struct Failing<'a> {
+struct BreakingInput<'a> {
     rest: &'a [u8],
     reads: usize,
     kind: ErrorKind,
 }
 
-impl Read for Failing<'_> {
+impl Read for BreakingInput<'_> {
     fn read(&mut self, buffer: &mut [u8]) -> io::Result<usize> {
         if self.reads == 0 {
             self.reads = usize::MAX;
@@ -34,7 +34,7 @@ fn read_failing(
     kind: ErrorKind,
 ) -> Result<Vec<u8>, WireFault> {
     let rest = bytes;
-    match read_frame(alloc, &mut Failing { rest, reads, kind })? {
+    match read_frame(alloc, &mut BreakingInput { rest, reads, kind })? {
         Some(frame) if frame.is_well() => encode(alloc, &frame),
         _ => Ok(Vec::new(alloc)),
     }
@@ -94,11 +94,11 @@ fn reads_the_bytes_of_one_frame_after_the_other(rt: HostRuntime) -> Result<(), F
 
 /// Takes one byte at a time. `writes` is the number of writes that are left until one fails.
 #[derive(Drop)]
-struct Full {
+struct BreakingOutput {
     writes: u32,
 }
 
-impl Write for Full {
+impl Write for BreakingOutput {
     fn write(&mut self, bytes: &[u8]) -> io::Result<usize> {
         let Some(writes) = self.writes.checked_sub(1) else {
             return Err(io::Error::from(ErrorKind::Other));
@@ -117,8 +117,11 @@ impl Write for Full {
 fn tells_a_write_that_failed(rt: HostRuntime) {
     let frame = Frame::Go(Go { budget: 4096 });
     for writes in 0..9 {
-        let answer = write_frame(&frame, &mut Full { writes });
+        let answer = write_frame(&frame, &mut BreakingOutput { writes });
         assert_eq!(rt; answer, Err(WireFault::Write));
     }
-    assert_eq!(rt; write_frame(&frame, &mut Full { writes: 9 }), Ok(()));
+    assert_eq!(rt;
+        write_frame(&frame, &mut BreakingOutput { writes: 9 }),
+        Ok(())
+    );
 }

@@ -75,11 +75,11 @@ fn takes_frames_and_rows(rt: HostRuntime) -> Result<(), Fail> {
 
 /// Takes one byte at a time, and fails at one write and at each later one.
 #[derive(Drop)]
-struct Full {
+struct FullReplies {
     before: usize,
 }
 
-impl Write for Full {
+impl Write for FullReplies {
     fn write(&mut self, buf: &[u8]) -> io::Result<usize> {
         if self.before == 0 {
             return Err(io::Error::from(ErrorKind::Other));
@@ -96,7 +96,7 @@ impl Write for Full {
 /// Returns how serving these bytes ends if writes fail once `before` bytes were written.
 fn end_of_serving(alloc: Global, input: &[u8], before: usize) -> Result<Served, WorkerFault> {
     let mut input = input;
-    serve(alloc, &mut input, &mut Full { before })
+    serve(alloc, &mut input, &mut FullReplies { before })
 }
 
 /// The reply to these frames has 44 bytes: a report, the values of a lift and a report.

@@ -6,12 +6,12 @@ use Rattle.pg_aiger_reader.specs.declared.fault.Section.TheVariants.{BadStates, 
 use Rattle.pg_aiger_reader.specs.declared.fault.ReaderFault.{ReaderFault}
 use Rattle.pg_aiger_reader.specs.declared.fault.ReaderFault.TheVariants.{TooLarge, LeftOut}
 use Rattle.pg_aiger_reader.specs.declared.header.Header.{Header}
-use Rattle.pg_aiger_reader.specs.declared.item.Form.{Form}
-use Rattle.pg_aiger_reader.specs.declared.item.Form.TheVariants.{Ascii, Binary}
+use Rattle.pg_aiger_reader.specs.declared.item.AigerFormat.{AigerFormat}
+use Rattle.pg_aiger_reader.specs.declared.item.AigerFormat.TheVariants.{Ascii, Binary}
 use Rattle.pg_aiger_reader.specs.Mirrors.Scan.{line_at}
 
 -- `aag ` or `aig `
-abbrev pub form_at : List ℕ → Option (Form × List ℕ)
+abbrev pub form_at : List ℕ → Option (AigerFormat × List ℕ)
 form_at (a ∷ b ∷ c ∷ d ∷ rest) =
     if a == 97 && b == 97 && c == 103 && d == 32 then Some (Ascii, rest)
     else (if a == 97 && b == 105 && c == 103 && d == 32 then Some (Binary, rest)
@@ -27,22 +27,22 @@ left_out (b ∷ c ∷ j ∷ []) =
 left_out (b ∷ c ∷ j ∷ f ∷ others) =
     if b == 0 then (if c == 0 then (if j == 0 then (if f == 0 then None else Some Fairness) else Some Justice) else Some Constraints) else Some BadStates
 
-abbrev pub fits : Form → ℕ → ℕ → ℕ → ℕ → Bool
+abbrev pub fits : AigerFormat → ℕ → ℕ → ℕ → ℕ → Bool
 fits Ascii greatest inputs latches gates = nat_le (inputs + latches + gates) greatest
 fits Binary greatest inputs latches gates = (inputs + latches + gates) == greatest
 
-abbrev pub head : Form → ℕ → ℕ → ℕ → ℕ → ℕ → Header
+abbrev pub head : AigerFormat → ℕ → ℕ → ℕ → ℕ → ℕ → Header
 head form greatest inputs latches outputs gates =
     record { form = form; greatest = greatest; inputs = inputs; latches = latches; outputs = outputs; gates = gates }
 
 -- the header, if nothing is left out and it is within the limits
-abbrev pub within : Form → ℕ → ℕ → ℕ → ℕ → ℕ → Option Section → Option Header
+abbrev pub within : AigerFormat → ℕ → ℕ → ℕ → ℕ → ℕ → Option Section → Option Header
 within form m i l o a (Some section) = None
 within form m i l o a None =
     if nat_lt 16777216 m || nat_lt 16777216 o then None
     else (if fits form m i l a then Some (head form m i l o a) else None)
 
-unfoldable pub header_of : Form → List ℕ → Option Header
+unfoldable pub header_of : AigerFormat → List ℕ → Option Header
 header_of form (m ∷ i ∷ l ∷ o ∷ a ∷ more) = within form m i l o a (left_out more)
 header_of form ns = None
 

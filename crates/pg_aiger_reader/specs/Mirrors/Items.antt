@@ -2,8 +2,8 @@
 use Rattle.std.specs.Prelude.{ℕ, suc, zero, ◌+◌, ◌*◌, ◌-◌, ◌^◌, ◌==◌, ◌||◌, List, [], ◌∷◌, Option, Some, None, nat_lt, if◌then◌else◌}
 use Rattle.pg_hoa_automaton.specs.Mirrors.Steps.{◌>>=◌}
 use Rattle.pg_aiger.specs.declared.gate.Gate.{Gate}
-use Rattle.pg_aiger_reader.specs.declared.item.Form.{Form}
-use Rattle.pg_aiger_reader.specs.declared.item.Form.TheVariants.{Ascii, Binary}
+use Rattle.pg_aiger_reader.specs.declared.item.AigerFormat.{AigerFormat}
+use Rattle.pg_aiger_reader.specs.declared.item.AigerFormat.TheVariants.{Ascii, Binary}
 use Rattle.pg_aiger_reader.specs.declared.item.LatchLine.{LatchLine}
 use Rattle.pg_aiger_reader.specs.Mirrors.Scan.{line_at}
 
@@ -15,21 +15,21 @@ only_number _ = None
 unfoldable pub literal_at : List ℕ → Option (ℕ × List ℕ)
 literal_at bytes = line_at 1 bytes >>= only_number
 
-unfoldable pub input_at : Form → ℕ → List ℕ → Option (ℕ × List ℕ)
+unfoldable pub input_at : AigerFormat → ℕ → List ℕ → Option (ℕ × List ℕ)
 input_at Ascii variable bytes = literal_at bytes
 input_at Binary variable bytes = Some (2 * variable, bytes)
 
 abbrev pub latch_line : ℕ → ℕ → ℕ → LatchLine
 latch_line literal next reset = record { literal = literal; next = next; reset = reset }
 
-abbrev pub latch_of : Form → ℕ → List ℕ → Option LatchLine
+abbrev pub latch_of : AigerFormat → ℕ → List ℕ → Option LatchLine
 latch_of Ascii variable (l ∷ n ∷ []) = Some (latch_line l n 0)
 latch_of Ascii variable (l ∷ n ∷ r ∷ []) = Some (latch_line l n r)
 latch_of Binary variable (n ∷ []) = Some (latch_line (2 * variable) n 0)
 latch_of Binary variable (n ∷ r ∷ []) = Some (latch_line (2 * variable) n r)
 latch_of form variable ns = None
 
-unfoldable pub latch_at : Form → ℕ → List ℕ → Option (LatchLine × List ℕ)
+unfoldable pub latch_at : AigerFormat → ℕ → List ℕ → Option (LatchLine × List ℕ)
 latch_at form variable bytes = line_at 3 bytes >>= λ x. latch_of form variable x.0 >>= λ l. Some (l, x.1)
 
 abbrev pub gate_of : ℕ → ℕ → ℕ → Gate
@@ -58,6 +58,6 @@ binary_gate_at variable bytes =
     if nat_lt (2 * variable - x.0) y.0 then None
     else Some (gate_of (2 * variable) (2 * variable - x.0) (2 * variable - x.0 - y.0), y.1))
 
-unfoldable pub gate_at : Form → ℕ → List ℕ → Option (Gate × List ℕ)
+unfoldable pub gate_at : AigerFormat → ℕ → List ℕ → Option (Gate × List ℕ)
 gate_at Ascii variable bytes = ascii_gate_at bytes
 gate_at Binary variable bytes = binary_gate_at variable bytes

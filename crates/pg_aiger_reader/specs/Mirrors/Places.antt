@@ -4,8 +4,8 @@ use Rattle.std.specs.Str.{bytes_eq}
 use Rattle.std.proofs.Common.{Bor}
 use Rattle.pg_aiger.specs.CircuitText.{Kind, input, latch, output, Symbol}
 use Rattle.pg_aiger_reader.specs.Ties.{IsNamed, IsOnlyAt}
-use Rattle.pg_aiger_reader.specs.declared.ties.Place.{Place}
-use Rattle.pg_aiger_reader.specs.declared.ties.Place.TheVariants.{Missing, At, Twice}
+use Rattle.pg_aiger_reader.specs.declared.ties.SymbolPlace.{SymbolPlace}
+use Rattle.pg_aiger_reader.specs.declared.ties.SymbolPlace.TheVariants.{Missing, At, Twice}
 
 abbrev pub is_kind : Kind → Kind → Bool
 is_kind input input = true
@@ -14,17 +14,17 @@ is_kind output output = true
 is_kind _ _ = false
 
 -- adds a place to one that is known, or to none
-abbrev pub also : Place → ℕ → Place
+abbrev pub also : SymbolPlace → ℕ → SymbolPlace
 also Missing place = At place
 also (At found) place = if found == place then At found else Twice
 also Twice place = Twice
 
-abbrev pub noted : Place → Kind → ℕ → List ℕ → Symbol → Place
+abbrev pub noted : SymbolPlace → Kind → ℕ → List ℕ → Symbol → SymbolPlace
 noted found kind count name s =
     if is_kind s.kind kind && nat_lt s.position count && bytes_eq s.name name then also found s.position else found
 
 -- the place that symbols give a name
-abbrev pub IsPlaceOf : Kind → ℕ → List Symbol → List ℕ → Place → Type 0
+abbrev pub IsPlaceOf : Kind → ℕ → List Symbol → List ℕ → SymbolPlace → Type 0
 IsPlaceOf kind count symbols name Missing = (place : ℕ) → ¬ IsNamed kind count symbols name place
 IsPlaceOf kind count symbols name (At p) = IsOnlyAt kind count symbols name p
 IsPlaceOf kind count symbols name Twice =

@@ -3,7 +3,7 @@ use Rattle.std.specs.Prelude.{ℕ, suc, zero, ◌+◌, List, [], ◌∷◌, Opti
 use Rattle.pg_hoa_automaton.specs.Mirrors.Steps.{◌>>=◌}
 use Rattle.pg_aiger.specs.declared.gate.Gate.{Gate}
 use Rattle.pg_aiger_reader.specs.declared.header.Header.{Header}
-use Rattle.pg_aiger_reader.specs.declared.item.Form.TheVariants.{Ascii}
+use Rattle.pg_aiger_reader.specs.declared.item.AigerFormat.TheVariants.{Ascii}
 use Rattle.pg_aiger_reader.specs.declared.item.LatchLine.{LatchLine}
 use Rattle.pg_aiger_reader.specs.declared.sections.Sections as declared
 use Rattle.pg_aiger_reader.specs.Mirrors.Items.{input_at, latch_at, gate_at}

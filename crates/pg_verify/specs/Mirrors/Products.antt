@@ -6,16 +6,16 @@ use Rattle.pg_hoa_automaton.specs.declared.table.Stored.{Stored}
 use Rattle.pg_synth.specs.AutomatonGames.{input_letters, output_letters}
 use Rattle.pg_aiger.specs.Circuits.{Circuit}
 use Rattle.pg_aiger_netlist.specs.Steps.{spelt, AreValues}
-use Rattle.pg_verify.specs.declared.rows.Row.{Row}
+use Rattle.pg_verify.specs.declared.states.ProductState.{ProductState}
 pub use Rattle.pg_verify.specs.Reached.{Pair, pair}
 pub use Rattle.pg_verify.specs.Products.{pair_at, Leads, Gives, IsMove, HasWholeLetters, IsProductOf}
 use Rattle.pg_verify.specs.Reached.{IsReached}
 
-abbrev pub pair_of : Row → Pair
+abbrev pub pair_of : ProductState → Pair
 pair_of row = pair (spelt row.latches.items) row.state
 
 -- each state is stored with the values of `width` latches
-abbrev pub AreWide : ℕ → List Row → Type 0
+abbrev pub AreWide : ℕ → List ProductState → Type 0
 AreWide width rows = All (λ row. length row.latches.items ≡ width) rows
 
 -- the lanes have the values of the steps at the 64 letters of which this is one

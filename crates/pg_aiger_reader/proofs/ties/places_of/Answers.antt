@@ -3,8 +3,8 @@ use Rattle.pg_aiger_reader.proofs.Given.{given_more, is_next, name_at, no_name}
 use Rattle.pg_aiger_reader.specs.Ties.{IsNamed, IsOnlyAt}
 use Rattle.pg_aiger_reader.specs.Views.{kind_in, symbol_in}
 use Rattle.pg_aiger_reader.specs.Mirrors.Places.{IsPlaceOf, texts}
-use Rattle.pg_aiger_reader.specs.declared.ties.Place.{Place}
-use Rattle.pg_aiger_reader.specs.declared.ties.Place.TheVariants.{At, Twice}
+use Rattle.pg_aiger_reader.specs.declared.ties.SymbolPlace.{SymbolPlace}
+use Rattle.pg_aiger_reader.specs.declared.ties.SymbolPlace.TheVariants.{At, Twice}
 use Rattle.pg_aiger_reader.proofs.ties.places_of.Goals as goal
 
 pub returns-in-Missing : goal.returns-in-Missing
@@ -13,7 +13,7 @@ returns-in-Missing c =
     let symbols = map symbol_in c.args.symbols.now in
     let names = c.args.names.now in
     let k = c.loop-k.k in
-    let seen = subst (λ (p : Place). IsPlaceOf kind c.args.count symbols (get_or names k no_name).now p) c.in-Missing.is c.place_of.ensures in
+    let seen = subst (λ (p : SymbolPlace). IsPlaceOf kind c.args.count symbols (get_or names k no_name).now p) c.in-Missing.is c.place_of.ensures in
     let e = c.in_ok-of-in-Missing.ensures in (
       k,
       is_next kind c.args.count symbols names k c.loop-k.places.items _ c.loop-k.invariant c.loop-k-test.true e,
@@ -26,7 +26,7 @@ returns-in-Twice c =
     let symbols = map symbol_in c.args.symbols.now in
     let names = c.args.names.now in
     let k = c.loop-k.k in
-    let seen = subst (λ (p : Place). IsPlaceOf kind c.args.count symbols (get_or names k no_name).now p) c.in-Twice.is c.place_of.ensures in
+    let seen = subst (λ (p : SymbolPlace). IsPlaceOf kind c.args.count symbols (get_or names k no_name).now p) c.in-Twice.is c.place_of.ensures in
     let e = c.in_ok-of-in-Twice.ensures in (
       k,
       is_next kind c.args.count symbols names k c.loop-k.places.items _ c.loop-k.invariant c.loop-k-test.true e,
@@ -42,7 +42,7 @@ returns-in-Some c =
     let j = c.in-Some.j in
     let places = c.loop-k.places.items in
     let place = c.in-At.place in
-    let seen = subst (λ (p : Place). IsPlaceOf kind c.args.count symbols (get_or names k no_name).now p) c.in-At.is c.place_of.ensures in
+    let seen = subst (λ (p : SymbolPlace). IsPlaceOf kind c.args.count symbols (get_or names k no_name).now p) c.in-At.is c.place_of.ensures in
     let one : c.in_ok-one-in-At.one.bytes.items ≡ (get_or names j no_name).now = c.in_ok-one-in-At.ensures in
     let other = c.in_ok-other-in-At.ensures in
     let at : (j < length places) × (get_or places j 0 ≡ place) = rw c.deref.ensures.value at c.in-Some.ensures.some in
@@ -69,7 +69,7 @@ loop-k-preserved c =
     let kind = kind_in c.args.kind in
     let symbols = map symbol_in c.args.symbols.now in
     let places = c.loop-k.places.items in
-    let seen = subst (λ (p : Place). IsPlaceOf kind c.args.count symbols (get_or names c.loop-k.k no_name).now p) c.in-At.is c.place_of.ensures in
+    let seen = subst (λ (p : SymbolPlace). IsPlaceOf kind c.args.count symbols (get_or names c.loop-k.k no_name).now p) c.in-At.is c.place_of.ensures in
     let here : IsPlaceOf kind c.args.count symbols (get_or (texts names) c.loop-k.k []) (At c.in-At.place) =
     subst (λ (name : List ℕ). IsPlaceOf kind c.args.count symbols name (At c.in-At.place)) (sym (name_at names c.loop-k.k c.loop-k-test.true)) seen in
     let new : Contains places c.in-At.place → ⊥ = rw c.deref.ensures.value at (c.in_default.ensures.none refl) in

@@ -5,7 +5,7 @@ use Rattle.pg_hoa_automaton.specs.Automata.{next}
 use Rattle.pg_synth.proofs.Letters.{both_parts}
 use Rattle.pg_aiger_netlist.specs.Steps.{spelt}
 use Rattle.pg_verify.specs.Mirrors.Products.{Pair, pair, pair_of, pair_at, Gives, IsPut}
-use Rattle.pg_verify.specs.declared.rows.Row.{Row}
+use Rattle.pg_verify.specs.declared.states.ProductState.{ProductState}
 use Rattle.pg_verify.proofs.Drafts.{step_pushed}
 use Rattle.pg_verify.proofs.product.push_step.Goals as goal
 
@@ -23,7 +23,7 @@ returns-clause-draft c =
     (let n = length-map c.args.draft.now.rows.keys pair_of in let s = c.requires.state in omega (arith, n, s)) in
     let row = c.index-rows-k.result in
     let here : pair_of (get_or c.listed-rows.result.now c.args.k row) ≡ x =
-    ap (λ (rows : List Row). pair_of (get_or rows c.args.k row)) c.listed-rows.ensures.same
+    ap (λ (rows : List ProductState). pair_of (get_or rows c.args.k row)) c.listed-rows.ensures.same
     ∙ sym (get_or-map pair_of c.args.draft.now.rows.keys c.args.k row (pair 0 0) c.requires.state) in
     let gives : Gives c.args.netlist.now x.latches c.args.input c.output-output.result (spelt c.next.new.latches) =
     λ v is. (c.output-output.ensures x.latches c.args.input v c.requires.values is, c.next.ensures x.latches c.args.input v c.requires.values is) in

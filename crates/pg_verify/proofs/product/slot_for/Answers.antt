@@ -15,9 +15,9 @@ returns-in_ok-slot-in-Some-clause-put c =
     let lists = map (λ (v : Vec ℕ Global). v.items) c.args.draft.now.lists.items in
     let more = map (λ (v : Vec ℕ Global). v.items) c.store.new.lists.items in
     let n = c.in_ok-number-in-Some.number in
-    let e = c.in_ok-set_row-in-Some.ensures in
-    let state : IsNumbered pairs (spelt c.set_row.new.row.latches.items) c.in-Some.target n after =
-    subst (λ q. IsNumbered pairs (spelt c.set_row.new.row.latches.items) q n after) e.state c.in_ok-number-in-Some.ensures.number in
+    let e = c.in_ok-set_state-in-Some.ensures in
+    let state : IsNumbered pairs (spelt c.set_state.new.row.latches.items) c.in-Some.target n after =
+    subst (λ q. IsNumbered pairs (spelt c.set_state.new.row.latches.items) q n after) e.state c.in_ok-number-in-Some.ensures.number in
     let number : IsNumbered pairs (spelt c.args.latches.now) c.in-Some.target n after =
     subst (λ (bits : List Bool). IsNumbered pairs (spelt bits) c.in-Some.target n after) e.latches state in
     let many = length-map c.args.draft.now.lists.items (λ (v : Vec ℕ Global). v.items) in

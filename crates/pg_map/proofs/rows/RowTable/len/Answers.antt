@@ -1,6 +1,0 @@
-use Rattle.std.proofs.Common.{sym}
-use Rattle.pg_map.proofs.Tables.{rows_size}
-use Rattle.pg_map.proofs.rows.RowTable.len.Goals as goal
-
-pub returns : goal.returns
-returns c = sym (rows_size _ _ _ _ c.self.view_is)

@@ -1,5 +1,0 @@
-use Rattle.pg_map.proofs.Tables.{marked_row}
-use Rattle.pg_map.proofs.rows.mark_row.Goals as goal
-
-pub returns-clause-value : goal.returns-clause-value
-returns-clause-value c = marked_row c.args.row.now c.requires
