@@ -223,12 +223,11 @@ def edits():
 
 
 def types():
-    """A public type has a name that no other crate's public type has."""
+    """A type, a private one too, has a name that no other crate's type has."""
     homes = {}
     for path in sorted(CRATES.glob("*/src/**/*.rt")):
-        if not is_of_tests(path):
-            for name in re.findall(r"^pub (?:struct|enum|trait|type) (\w+)", path.read_text(), re.M):
-                homes.setdefault(name, set()).add(path.relative_to(CRATES).parts[0])
+        for name in re.findall(r"^(?:pub(?:\(crate\))? )?(?:struct|enum|trait|type) (\w+)", path.read_text(), re.M):
+            homes.setdefault(name, set()).add(path.relative_to(CRATES).parts[0])
     for name, crates in sorted(homes.items()):
         yield name, None if len(crates) == 1 else f"in {' and '.join(sorted(crates))}"
 

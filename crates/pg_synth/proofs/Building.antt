@@ -1,5 +1,5 @@
 -- The builder takes each line of the game, if these are within its limits.
-use Rattle.pg_synth.proofs.Common.{◌≡◌, ℕ, ◌<◌, ◌≤◌, false, eqb, List, [], ◌∷◌, length, map, get_or, take, Option, Some, None, Result, Ok}
+use Rattle.pg_synth.proofs.Common.{◌≡◌, ℕ, ◌+◌, ◌<◌, ◌≤◌, false, eqb, List, [], ◌∷◌, length, map, get_or, take, Option, Some, None, Result, Ok}
 use Rattle.pg_synth.proofs.Common.{Err, arith, refl, sym, ap, subst, ◌∙◌, ◌||◌, IfErr, Contains, sum_by, IsStrictlyIncreasing, length-map}
 use Rattle.pg_synth.proofs.Common.{length-take, get_or-take, Contains-get_or, sum_by-cons, sum_by_more_le, sorted_from_strictly_increasing}
 use Rattle.pg_synth.proofs.Common.{below_from_sorted, Player, ArenaFault, OutOfMemory}
@@ -68,15 +68,10 @@ may_follow a ids k is e lt vertices edges =
         let up = sorted_from_strictly_increasing ids (subst IsStrictlyIncreasing (sym e) (rising_rises (all_identifiers a))) in
         let less = below_from_sorted ids j k 0 up (omega arith) lt in omega (arith, at, same, less))
 
--- then only memory can be refused
-pub memory_only : (T : Type 0) (fault : ArenaFault) (reason : Option ArenaFault) → reason ≡ None → Answers {T = T} (Err fault) reason → fault ≡ OutOfMemory
-memory_only T OutOfMemory reason e h = refl
-memory_only T _ reason e h = absurd (let w = sym h ∙ e in cc w)
-
-pub memory_result : (T : Type 0) (r : Result T ArenaFault) (reason : Option ArenaFault) → reason ≡ None → Answers r reason
-    → IfErr r (λ fault. fault ≡ OutOfMemory)
-memory_result T (Ok x) reason e h = tt
-memory_result T (Err fault) reason e h = memory_only T fault reason e h
+-- a line that may follow leaves the edges within the limit
+pub few_follow : (a : Automaton) (ids : List ℕ) (k : ℕ) → add_fault (map (line_at a) (take k ids)) (line_at a (get_or ids k 0)) ≡ None
+    → sum_by (edges_of a) (take k ids) + edges_of a (get_or ids k 0) ≤ 8388608
+few_follow a ids k h = grind (arith, nat_tests, h, edges_so_far a (take k ids))
 
 -- ---- what is added is the line
 

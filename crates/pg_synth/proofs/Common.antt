@@ -5,7 +5,7 @@ pub use Rattle.std.proofs.Math.Seq.{take-length}
 pub use Rattle.std.proofs.lemmas.Bool.{cases_Bool, cases_eq, cases_lt, eq-eqb, eqb-true, le-leb, lt-leb, ne_eqb}
 pub use Rattle.std.proofs.lemmas.Bool.Decides.{nat_tests}
 pub use Rattle.std.proofs.lemmas.List.{ext_get_or, flat_map_more, get_or-map, get_or-take, get_or_append_left, get_or_default, get_or_push}
-pub use Rattle.std.proofs.lemmas.List.{get_or_read, length-map, length-take, take_more}
+pub use Rattle.std.proofs.lemmas.List.{get_or_read, length-map, length-take, map_more, take_more}
 pub use Rattle.std.proofs.lemmas.List.Elements.{All-cons, All-contains, All-from_get_or, All-nil, Contains-append_cases}
 pub use Rattle.std.proofs.lemmas.List.Elements.{Contains-append_left, Contains-append_right, Contains-get_or}
 pub use Rattle.std.proofs.lemmas.List.Filters.{dedup_is}
@@ -13,7 +13,7 @@ pub use Rattle.std.proofs.lemmas.List.FromFn.{get_or-map-range_with_len, get_or-
 pub use Rattle.std.proofs.lemmas.List.FromFn.{length-range_with_len, map-range_with_len_more}
 pub use Rattle.std.proofs.lemmas.List.Kept.{AllPairs-from_increasing}
 pub use Rattle.std.proofs.lemmas.List.Sorted.{Contains-permutation, IsPermutation-refl, IsPermutation-sym}
-pub use Rattle.std.proofs.lemmas.List.Sums.{sum_by-cons, sum_by_more_le}
+pub use Rattle.std.proofs.lemmas.List.Sums.{sum_by-cons, sum_by_more, sum_by_more_le}
 pub use Rattle.std.proofs.lemmas.Map.Keys.{apart_from_distinct, below_from_sorted, non_decreasing_from_sorted}
 pub use Rattle.std.proofs.lemmas.Map.Keys.{sorted_from_strictly_increasing}
 pub use Rattle.std.proofs.lemmas.Map.Steps.{length-le_from_distinct_below}

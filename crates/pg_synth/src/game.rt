@@ -6,8 +6,8 @@ ghost use Rattle.pg_synth.specs.Answers.{IsSynthGame, Refuses};
 
 use crate::fault::SynthFault;
 use crate::layout::layout_of;
-use crate::lines::{built, has_few_edges, identifiers_of};
-use pg_arena::{Game, MAX_VERTICES, Vertex};
+use crate::lines::{built, identifiers_of};
+use pg_arena::{ArenaFault, Game, MAX_VERTICES, Vertex};
 use pg_hoa_automaton::Automaton;
 use std::alloc::Global;
 
@@ -25,8 +25,8 @@ pub struct SynthGame {
 /// arrival that some state and letter lead to, and the answers at every state, reachable or not.
 ///
 /// It fails with `TooLarge` if and only if the game has more than 1,048,576 vertices, or more than 8,388,608 edges,
-/// counting parallel edges once; it finds that out before it makes the game. Otherwise it fails only with
-/// `OutOfMemory`.
+/// counting parallel edges once. It counts the vertices before it adds the first one, and stops at the first one whose
+/// edges are too many. Otherwise it fails only with `OutOfMemory`.
 pub fn game_of(alloc: Global, automaton: &Automaton) -> Result<SynthGame, SynthFault>
     ensures game { IfOk result (λ made. IsSynthGame automaton.now made.game made.initial) }
     ensures priorities { IfOk result (λ made. HasPrioritiesUpTo 65535 made.game) }
@@ -39,12 +39,11 @@ pub fn game_of(alloc: Global, automaton: &Automaton) -> Result<SynthGame, SynthF
     if identifiers.len() > MAX_VERTICES {
         return Err(SynthFault::TooLarge);
     }
-    if !has_few_edges(alloc, automaton, &layout, &identifiers)? {
-        return Err(SynthFault::TooLarge);
-    }
-    // the limits are kept, so `built` can fail only by running out of memory
-    let Ok(game) = built(alloc, automaton, &layout, &identifiers) else {
-        return Err(SynthFault::OutOfMemory);
+    let game = match built(alloc, automaton, &layout, &identifiers) {
+        Ok(game) => game,
+        Err(ArenaFault::TooManyEdges) => return Err(SynthFault::TooLarge),
+        // these lines can't be refused for another cause than memory
+        Err(_) => return Err(SynthFault::OutOfMemory),
     };
     let initial = game
         .vertex_of(1 + automaton.start() * layout.width)

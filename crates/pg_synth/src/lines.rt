@@ -1,9 +1,9 @@
 //! The lines of the game of an automaton.
 
-ghost use Rattle.std.specs.Prelude.{◌≡◌, ◌↔◌, ◌≤◌, ◌<◌, ◌++◌, ◌∷◌, [], map, length, IsTrue, None, OnOk, IfOk, IfErr, Contains};
+ghost use Rattle.std.specs.Prelude.{◌≡◌, ◌≤◌, ◌<◌, ◌++◌, ◌∷◌, [], map, length, Err, OnOk, IfOk};
 ghost use Rattle.std.specs.List.{range_with_len, sum_by};
-ghost use Rattle.pg_arena.specs.declared.fault.ArenaFault.TheVariants.{OutOfMemory};
-ghost use Rattle.pg_arena.specs.Lines.{add_fault, IsGameOf};
+ghost use Rattle.pg_arena.specs.declared.fault.ArenaFault.TheVariants.{TooManyEdges};
+ghost use Rattle.pg_arena.specs.Lines.{add_fault, Answers, IsGameOf};
 ghost use Rattle.pg_list_lemmas.specs.Rising.{rising};
 ghost use Rattle.pg_hoa_automaton.specs.Automata.{letters};
 ghost use Rattle.pg_synth.specs.AutomatonGames.{IsPlaceOf, input_letters, place_identifier};
@@ -13,7 +13,7 @@ ghost use Rattle.pg_synth.specs.declared.place.Place.TheVariants.{Answer};
 
 use crate::layout::Layout;
 use crate::place::{Place, deciding};
-use pg_arena::{ArenaFault, Game, GameBuilder, MAX_EDGES};
+use pg_arena::{ArenaFault, Game, GameBuilder};
 use pg_hoa_automaton::Automaton;
 use std::alloc::{AllocError, Global};
 
@@ -37,32 +37,8 @@ pub(crate) fn identifiers_of(
     Ok(list)
 }
 
-/// Whether the vertices with these identifiers together have no more edges than a game may have.
-pub(crate) fn has_few_edges(
-    alloc: Global,
-    automaton: &Automaton,
-    layout: &Layout,
-    identifiers: &[u32],
-) -> Result<bool, AllocError>
-    requires laid { IsLayoutOf automaton.now layout.now }
-    requires listed { identifiers.now ≡ game_identifiers automaton.now }
-    ensures { IfOk result (λ few. IsTrue few ↔ (sum_by (edges_of automaton.now) identifiers.now ≤ 8388608)) }
-{
-    let mut edges = 0;
-    let mut list = Vec::new(alloc);
-    for identifier in identifiers {
-        let place = Place::with_identifier(*identifier, automaton.sets(), layout.width);
-        put_leads(&mut list, automaton, layout, place)?;
-        put_each_once(&mut list);
-        edges += list.len();
-        if edges > MAX_EDGES {
-            return Ok(false);
-        }
-    }
-    Ok(true)
-}
-
-/// Builds the game whose vertices have these identifiers. Fails only if memory runs out.
+/// Builds the game whose vertices have these identifiers. If together they have more than 8,388,608 edges, counting parallel edges once, it
+/// fails with `TooManyEdges` at the first vertex with which they do. Otherwise it fails only if memory runs out.
 pub(crate) fn built(
     alloc: Global,
     automaton: &Automaton,
@@ -72,9 +48,9 @@ pub(crate) fn built(
     requires laid { IsLayoutOf automaton.now layout.now }
     requires listed { identifiers.now ≡ game_identifiers automaton.now }
     requires vertices { length identifiers.now ≤ 1048576 }
-    requires edges { sum_by (edges_of automaton.now) identifiers.now ≤ 8388608 }
     ensures game { IfOk result (IsGameOf (game_lines automaton.now)) }
-    ensures memory { IfErr result (λ fault. fault ≡ OutOfMemory) }
+    ensures few { OnOk result (sum_by (edges_of automaton.now) identifiers.now ≤ 8388608) }
+    ensures many { result ≡ Err TooManyEdges → 8388608 < sum_by (edges_of automaton.now) identifiers.now }
 {
     let mut builder = GameBuilder::new(alloc);
     let mut successors = Vec::new(alloc);
@@ -92,8 +68,8 @@ pub(crate) fn built(
     builder.finish()
 }
 
-/// Adds the vertex with this identifier. Its successors and its name are built in the given vectors, whose contents are replaced. Fails
-/// only if memory runs out.
+/// Adds the vertex with this identifier. Its successors and its name are built in the given vectors, whose contents are replaced. It fails
+/// if the builder doesn't take its line, or if memory runs out.
 fn add_vertex(
     builder: &mut GameBuilder,
     successors: &mut Vec<u32>,
@@ -104,9 +80,8 @@ fn add_vertex(
 ) -> Result<(), ArenaFault>
     requires laid { IsLayoutOf automaton.now layout.now }
     requires place { IsPlaceOf automaton.now (place_in automaton.now identifier) }
-    requires follows { add_fault builder.old (line_at automaton.now identifier) ≡ None }
+    ensures answer { Answers result (add_fault builder.old (line_at automaton.now identifier)) }
     ensures added { OnOk result (builder.new ≡ builder.old ++ line_at automaton.now identifier ∷ []) }
-    ensures memory { IfErr result (λ fault. fault ≡ OutOfMemory) }
 {
     let place = Place::with_identifier(identifier, automaton.sets(), layout.width);
     put_leads(successors, automaton, layout, place)?;

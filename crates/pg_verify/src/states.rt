@@ -25,7 +25,7 @@ fn copy_of(alloc: Global, row: &ProductState) -> Result<ProductState, AllocError
     })
 }
 
-/// Sets a row to these latches and this state.
+/// Sets a state of the product to these latches and this state of the automaton.
 pub(crate) fn set_state(
     row: &mut ProductState,
     latches: &[bool],

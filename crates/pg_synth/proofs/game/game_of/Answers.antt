@@ -1,5 +1,5 @@
-use Rattle.pg_synth.proofs.Common.{◌≡◌, ◌+◌, ◌*◌, ◌≤◌, ℕ, List, true, false, inl, inr, length, None, Some, arith, refl, sym, subst, ap, ◌∙◌}
-use Rattle.pg_synth.proofs.Common.{sum_by, cases_lt, place_identifier, edges_of, game_identifiers, Arrival}
+use Rattle.pg_synth.proofs.Common.{◌≡◌, ◌+◌, ◌*◌, ◌<◌, ◌≤◌, ℕ, List, length, None, Some, Err, arith, refl, sym, subst, ap, ◌∙◌}
+use Rattle.pg_synth.proofs.Common.{sum_by, place_identifier, edges_of, game_identifiers, Arrival}
 use Rattle.pg_synth.proofs.Made.{made}
 use Rattle.pg_synth.proofs.Limits.{many_vertices, many_edges, initial_of, synth_game}
 use Rattle.pg_synth.proofs.Numbers.{small}
@@ -17,18 +17,6 @@ returns-then-len-gt-MAX_VERTICES-clause-fault c =
       c.in_ok-identifiers.identifiers.ok.0,
       ap length c.in_ok-identifiers.ensures,
     ))
-
-pub returns-then-not-branch-clause-fault : goal.returns-then-not-branch-clause-fault
-returns-then-not-branch-clause-fault c =
-    let a = c.args.automaton.now in
-    let ids = c.deref.ensures.value ∙ c.in_ok-identifiers.ensures in
-    elim (cases_lt 8388608 (sum_by (edges_of a) (game_identifiers a))) [
-      | inl lt ↦ many_edges a c.states-states.ensures.automaton lt
-      | inr le ↦ absurd (
-          let few : c.in_ok-has_few_edges.field-0 ≡ true =
-          c.in_ok-has_few_edges.ensures.1 (subst (λ (xs : List ℕ). sum_by (edges_of a) xs ≤ 8388608) (sym ids) le) in
-          let wrong : true ≡ false = sym few ∙ c.if-not-branch.true in cc wrong)
-    ]
 
 pub overflow_mul-start : goal.overflow_mul-start
 overflow_mul-start c =
@@ -71,10 +59,17 @@ returns-clause-game c =
     let ids = c.deref.ensures.value ∙ c.in_ok-identifiers.ensures in
     synth_game a c.in-Ok.game c.unwrap-initial.result is g
     (omega (arith, c.len.ensures, c.if-len-gt-MAX_VERTICES.false, c.in_ok-identifiers.identifiers.ok.0, ap length c.in_ok-identifiers.ensures))
-    (subst (λ (xs : List ℕ). sum_by (edges_of a) xs ≤ 8388608) ids (c.in_ok-has_few_edges.ensures.0 c.if-not-branch.false)) (cc same)
+    (subst (λ (xs : List ℕ). sum_by (edges_of a) xs ≤ 8388608) ids c.in-Ok.ensures.few) (cc same)
 
 pub returns-clause-priorities : goal.returns-clause-priorities
 returns-clause-priorities c =
     let a = c.args.automaton.now in
     let is = c.states-states.ensures.automaton in
     low_priorities a c.in-Ok.game is (made a c.in-Ok.game is c.in-Ok.ensures.game)
+
+pub returns-in-Err-TooManyEdges-clause-fault : goal.returns-in-Err-TooManyEdges-clause-fault
+returns-in-Err-TooManyEdges-clause-fault c =
+    let a = c.args.automaton.now in
+    let ids = c.deref.ensures.value ∙ c.in_ok-identifiers.ensures in
+    many_edges a c.states-states.ensures.automaton
+    (subst (λ (xs : List ℕ). 8388608 < sum_by (edges_of a) xs) ids (c.in-Err-TooManyEdges.ensures.many (ap Err c.in-Err-TooManyEdges.field-0-is)))

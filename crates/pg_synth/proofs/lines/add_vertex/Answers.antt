@@ -1,5 +1,5 @@
-use Rattle.pg_synth.proofs.Common.{◌≡◌, ◌++◌, ◌∷◌, [], Some, ap, sym, subst, ◌∙◌, OnOk, Line, add_fault, IsPlaceOf, place_priority}
-use Rattle.pg_synth.proofs.Building.{place_at, memory_result, line_is}
+use Rattle.pg_synth.proofs.Common.{◌≡◌, ◌++◌, ◌∷◌, [], Some, ap, sym, subst, ◌∙◌, OnOk, Line, Answers, add_fault, IsPlaceOf, place_priority}
+use Rattle.pg_synth.proofs.Building.{place_at, line_is}
 use Rattle.pg_synth.proofs.lines.add_vertex.Goals as goal
 
 pub put_leads-requires-clause-place : goal.put_leads-requires-clause-place
@@ -20,8 +20,8 @@ returns-clause-added c =
     (c.deref.ensures.value ∙ c.in_ok-put_leads.ensures) (ap Some (c.deref-2.ensures.value ∙ c.in_ok-put_name.ensures)) in
     subst (λ (l : Line). OnOk c.add.result (c.add.new.self ≡ c.args.builder.now ++ l ∷ [])) line c.add.ensures.ok
 
-pub returns-clause-memory : goal.returns-clause-memory
-returns-clause-memory c =
+pub returns-clause-answer : goal.returns-clause-answer
+returns-clause-answer c =
     let a = c.args.automaton.now in
     let n = c.args.identifier in
     let x = c.with_identifier-place.result in
@@ -30,4 +30,4 @@ returns-clause-memory c =
     ∙ ap (λ k. place_priority a.shape k x) c.sets-2.ensures in
     let line = line_is a n c.priority-priority.result c.owner.result c.deref.result.now (Some c.deref-2.result.now) x at priority c.owner.ensures
     (c.deref.ensures.value ∙ c.in_ok-put_leads.ensures) (ap Some (c.deref-2.ensures.value ∙ c.in_ok-put_name.ensures)) in
-    memory_result (Unit {0}) c.add.result _ (ap (add_fault c.args.builder.now) line ∙ c.requires.follows) c.add.ensures.answer
+    subst (λ (l : Line). Answers c.add.result (add_fault c.args.builder.now l)) line c.add.ensures.answer
