@@ -1,10 +1,10 @@
 -- The builder takes each line of the game, if these are within its limits.
-use Rattle.pg_synth.proofs.Common.{◌≡◌, ℕ, ◌+◌, ◌<◌, ◌≤◌, false, eqb, List, [], ◌∷◌, length, map, get_or, take, Option, Some, None, Result, Ok}
-use Rattle.pg_synth.proofs.Common.{Err, arith, refl, sym, ap, subst, ◌∙◌, ◌||◌, IfErr, Contains, sum_by, IsStrictlyIncreasing, length-map}
+use Rattle.pg_synth.proofs.Common.{◌≡◌, ℕ, ◌+◌, ◌<◌, ◌≤◌, false, eqb, List, [], ◌∷◌, length, map, get_or, take, Option, Some, None}
+use Rattle.pg_synth.proofs.Common.{arith, refl, sym, ap, subst, ◌∙◌, ◌||◌, Contains, sum_by, IsStrictlyIncreasing, length-map}
 use Rattle.pg_synth.proofs.Common.{length-take, get_or-take, Contains-get_or, sum_by-cons, sum_by_more_le, sorted_from_strictly_increasing}
-use Rattle.pg_synth.proofs.Common.{below_from_sorted, Player, ArenaFault, OutOfMemory}
+use Rattle.pg_synth.proofs.Common.{below_from_sorted, Player}
 use Rattle.pg_synth.proofs.Common.{GameVertex, edge_count, counted, is_named}
-use Rattle.pg_synth.proofs.Common.{add_fault, Answers, nat_tests, has_none, has, rising_rises, rising_length, Shape, MaxEven}
+use Rattle.pg_synth.proofs.Common.{add_fault, nat_tests, has_none, has, rising_rises, rising_length, Shape, MaxEven}
 use Rattle.pg_synth.proofs.Common.{Automaton, IsAutomaton, set_priority, none_priority, place_priority}
 use Rattle.pg_synth.proofs.Common.{place_owner, place_name, IsPlaceOf, place_with, place_in, leads, edges_of, line_at, all_identifiers}
 use Rattle.pg_synth.proofs.Common.{game_identifiers, IsLayoutOf, Layout, Place, Dead, Arrival, Answer}

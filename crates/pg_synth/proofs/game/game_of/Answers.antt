@@ -1,5 +1,5 @@
 use Rattle.pg_synth.proofs.Common.{◌≡◌, ◌+◌, ◌*◌, ◌<◌, ◌≤◌, ℕ, List, length, None, Some, Err, arith, refl, sym, subst, ap, ◌∙◌}
-use Rattle.pg_synth.proofs.Common.{sum_by, place_identifier, edges_of, game_identifiers, Arrival}
+use Rattle.pg_synth.proofs.Common.{sum_by, place_identifier, edges_of, Arrival}
 use Rattle.pg_synth.proofs.Made.{made}
 use Rattle.pg_synth.proofs.Limits.{many_vertices, many_edges, initial_of, synth_game}
 use Rattle.pg_synth.proofs.Numbers.{small}

@@ -1,4 +1,4 @@
-use Rattle.pg_synth.proofs.Common.{◌≡◌, ◌≢◌, ◌<◌, ◌≤◌, ◌++◌, ◌∷◌, [], ℕ, List, Result, Ok, Err, Option, Some, None, get_or, length, map, take, take_all, ap, sym, subst, ◌∙◌}
+use Rattle.pg_synth.proofs.Common.{◌≡◌, ◌≢◌, ◌<◌, ◌≤◌, ◌++◌, ◌∷◌, [], ℕ, List, Result, Ok, Err, Some, None, get_or, length, map, take, take_all, ap, sym, subst, ◌∙◌}
 use Rattle.pg_synth.proofs.Common.{inl, inr, cases_lt, arith, MatchResult, ArenaFault, TooManyEdges, OutOfMemory, GameVertex, Line, IsGameOf, Answers, add_fault, line_at, game_lines}
 use Rattle.pg_synth.proofs.Common.{game_identifiers, edges_of, sum_by, sum_by_more, map_more, Automaton, IsAutomaton}
 use Rattle.std.proofs.lemmas.Result.{err_from_is_err_and}
