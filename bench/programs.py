@@ -8,6 +8,7 @@ coded.
     bench/programs.py frame_speed       encode, decode and read_frame on frames of a million numbers
     bench/programs.py hoa_speed         read_automaton on automata of many states, and of many letters
     bench/programs.py game_speed        game_of on such automata
+    bench/programs.py apart_speed       200 rounds over two links in memory, on a game of a million vertices
 
 A program is a crate of one file, `NAME.rt.txt`; it is built in a copy of the repository's crates, with what was proved of
 them, so that only the program and what isn't proved yet is proved. The copy is removed at the end; if a second word names a
@@ -23,7 +24,8 @@ import tempfile
 BENCH = pathlib.Path(__file__).resolve().parent
 TOP = BENCH.parent
 STANDS_ON = {"read_speed": "pg_text pg_arena", "lift_speed": "pg_arena pg_measure pg_map", "frame_speed": "pg_wire anyhow", "hoa_speed": "pg_hoa itoa",
-             "worker_speed": "pg_arena pg_measure pg_wire pg_worker", "game_speed": "pg_hoa pg_synth pg_arena itoa"}
+             "worker_speed": "pg_arena pg_measure pg_wire pg_worker", "game_speed": "pg_hoa pg_synth pg_arena itoa",
+             "apart_speed": "pg_arena pg_coord_partition pg_coord_rounds pg_coord anyhow"}
 LINES = 1_000_000
 
 

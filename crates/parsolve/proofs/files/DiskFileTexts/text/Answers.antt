@@ -1,6 +1,6 @@
 use Rattle.std.proofs.Common.{refl, rules}
 use Rattle.parsolve.proofs.Unread.{of_bytes, of_input}
-use Rattle.parsolve.proofs.files.DiskTexts.text.Goals as goal
+use Rattle.parsolve.proofs.files.DiskFileTexts.text.Goals as goal
 
 pub returns-in_err-read_input-clause-refused : goal.returns-in_err-read_input-clause-refused
 returns-in_err-read_input-clause-refused g c =
