@@ -4,7 +4,7 @@ use Rattle.pg_synth.proofs.Common.{arith, refl, sym, ap, subst, ◌∙◌, ◌||
 use Rattle.pg_synth.proofs.Common.{length-take, get_or-take, Contains-get_or, sum_by-cons, sum_by_more_le, sorted_from_strictly_increasing}
 use Rattle.pg_synth.proofs.Common.{below_from_sorted, Player}
 use Rattle.pg_synth.proofs.Common.{GameVertex, edge_count, counted, is_named}
-use Rattle.pg_synth.proofs.Common.{add_fault, nat_tests, has_none, has, rising_rises, rising_length, Shape, MaxEven}
+use Rattle.pg_synth.proofs.Common.{ArenaFault, TooManyEdges, add_fault, nat_tests, has_none, has, rising_rises, rising_length, Shape, MaxEven}
 use Rattle.pg_synth.proofs.Common.{Automaton, IsAutomaton, set_priority, none_priority, place_priority}
 use Rattle.pg_synth.proofs.Common.{place_owner, place_name, IsPlaceOf, place_with, place_in, leads, edges_of, line_at, all_identifiers}
 use Rattle.pg_synth.proofs.Common.{game_identifiers, IsLayoutOf, Layout, Place, Dead, Arrival, Answer}
@@ -37,11 +37,14 @@ edges_so_far a [] = refl
 edges_so_far a (n ∷ ns) =
     omega (arith, sum_by-cons (λ (x : GameVertex). length x.successors) (line_at a n) (map (line_at a) ns), sum_by-cons (edges_of a) n ns, edges_so_far a ns)
 
-pub may_follow : (a : Automaton) (ids : List ℕ) (k : ℕ) → IsAutomaton a → ids ≡ game_identifiers a → k < length ids → length ids ≤ 1048576
-    → sum_by (edges_of a) ids ≤ 8388608 → add_fault (map (line_at a) (take k ids)) (line_at a (get_or ids k 0)) ≡ None
-may_follow a ids k is e lt vertices edges =
+-- only the edges can be too many
+pub edges_only : (a : Automaton) (ids : List ℕ) (k : ℕ) (fault : ArenaFault) → IsAutomaton a → ids ≡ game_identifiers a → k < length ids
+    → length ids ≤ 1048576 → add_fault (map (line_at a) (take k ids)) (line_at a (get_or ids k 0)) ≡ Some fault
+    → (fault ≡ TooManyEdges) × (8388608 < sum_by (edges_of a) ids)
+edges_only a ids k fault is e lt vertices refused =
     grind (
       arith,
+      refused,
       nat_tests,
       priority_small a (place_in a n) is (within_game a (place_in a n) is place),
       rising_length (leads a (place_in a n)) (has_leads a (place_in a n)),

@@ -25,8 +25,8 @@ pub struct SynthGame {
 /// arrival that some state and letter lead to, and the answers at every state, reachable or not.
 ///
 /// It fails with `TooLarge` if and only if the game has more than 1,048,576 vertices, or more than 8,388,608 edges,
-/// counting parallel edges once. It counts the vertices before it adds the first one, and stops at the first one whose
-/// edges are too many. Otherwise it fails only with `OutOfMemory`.
+/// counting parallel edges once. It counts the vertices before it adds the first one, and stops at the first vertex with
+/// which there are too many edges. Otherwise it fails only with `OutOfMemory`.
 pub fn game_of(alloc: Global, automaton: &Automaton) -> Result<SynthGame, SynthFault>
     ensures game { IfOk result (λ made. IsSynthGame automaton.now made.game made.initial) }
     ensures priorities { IfOk result (λ made. HasPrioritiesUpTo 65535 made.game) }

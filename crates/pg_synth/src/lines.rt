@@ -1,8 +1,8 @@
 //! The lines of the game of an automaton.
 
-ghost use Rattle.std.specs.Prelude.{◌≡◌, ◌≤◌, ◌<◌, ◌++◌, ◌∷◌, [], map, length, Err, OnOk, IfOk};
+ghost use Rattle.std.specs.Prelude.{◌≡◌, ◌≤◌, ◌<◌, ◌⊎◌, ◌++◌, ◌∷◌, [], map, length, Err, OnOk, IfOk, IfErr};
 ghost use Rattle.std.specs.List.{range_with_len, sum_by};
-ghost use Rattle.pg_arena.specs.declared.fault.ArenaFault.TheVariants.{TooManyEdges};
+ghost use Rattle.pg_arena.specs.declared.fault.ArenaFault.TheVariants.{OutOfMemory, TooManyEdges};
 ghost use Rattle.pg_arena.specs.Lines.{add_fault, Answers, IsGameOf};
 ghost use Rattle.pg_list_lemmas.specs.Rising.{rising};
 ghost use Rattle.pg_hoa_automaton.specs.Automata.{letters};
@@ -38,7 +38,7 @@ pub(crate) fn identifiers_of(
 }
 
 /// Builds the game whose vertices have these identifiers. If together they have more than 8,388,608 edges, counting parallel edges once, it
-/// fails with `TooManyEdges` at the first vertex with which they do. Otherwise it fails only if memory runs out.
+/// fails with `TooManyEdges` at the first vertex with which there are too many. Otherwise it fails only if memory runs out.
 pub(crate) fn built(
     alloc: Global,
     automaton: &Automaton,
@@ -51,6 +51,7 @@ pub(crate) fn built(
     ensures game { IfOk result (IsGameOf (game_lines automaton.now)) }
     ensures few { OnOk result (sum_by (edges_of automaton.now) identifiers.now ≤ 8388608) }
     ensures many { result ≡ Err TooManyEdges → 8388608 < sum_by (edges_of automaton.now) identifiers.now }
+    ensures fault { IfErr result (λ f. (f ≡ OutOfMemory) ⊎ (f ≡ TooManyEdges)) }
 {
     let mut builder = GameBuilder::new(alloc);
     let mut successors = Vec::new(alloc);
