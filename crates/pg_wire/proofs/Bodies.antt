@@ -3,10 +3,12 @@ use Rattle.pg_wire.proofs.Common.{◌≡◌, ℕ, suc, ◌≤◌, cond, List, []
 use Rattle.pg_wire.proofs.Common.{◌∙◌, append_assoc, arith, inl, inr, ◌==◌, w32, from_be_bytes, eqb-true, cases_Bool, append-nil, take_at}
 use Rattle.pg_wire.proofs.Common.{drop_at, length-append, nil_from_length, from_be_bytes-to_be_bytes_4, FieldFault, At, ReadFault, Frame}
 use Rattle.pg_wire.proofs.Common.{word, body, longest, IsWell, Spells, ◌>>=◌, Reader, Fails, made, Format, frame_at, body_at, setup_fields}
-use Rattle.pg_wire.proofs.Common.{vertices_fields, values_fields, sparse_fields, go_fields, report_fields}
+use Rattle.pg_wire.proofs.Common.{get_or, ◌^◌, within_at, Setup, vertices_fields, values_fields, sparse_fields, go_fields, report_fields}
 use Rattle.pg_wire.specs.declared.fault.ReadFault.TheVariants as faults
+use Rattle.pg_wire.specs.declared.frame.Go.{Go}
+use Rattle.pg_wire.specs.declared.frame.Report.{Report}
 use Rattle.pg_wire.specs.declared.frame.Frame.TheVariants as frames
-use Rattle.pg_wire.proofs.Grammar.{IsForm, IsBytes, bind_ok, test_ok, ok_is, nothing_is}
+use Rattle.pg_wire.proofs.Grammar.{IsForm, IsBytes, bind_ok, test_ok, ok_is, nothing_is, number_is}
 use Rattle.pg_wire.proofs.FrameFormats.{setup_is, vertices_is, values_fields_is, sparse_fields_is, go_is, report_is}
 
 abbrev end : Frame × List ℕ → Result Frame FieldFault
@@ -109,6 +111,41 @@ pub one_frame : (f g : Frame) (bytes : List ℕ) → Spells f bytes → Spells g
 one_frame f g bytes p q =
     let split = spelling_split bytes (word (length (body g))) (body g) f q.spelled refl p in
     same_body f g p.well q.well (sym split.whole)
+
+-- what is read fails only if memory runs out
+pub fails_known : {Y Z : Type 0} (e : ReadFault) (r : Result Y FieldFault) (y : Y) (z : Z) → r ≡ Ok y → Fails e r → Fails {Y = Z} e (Ok z)
+fails_known faults.Memory r y z known h = tt
+fails_known (faults.Field f) r y z known h = absurd (cc (sym known ∙ h))
+
+-- ---- the frame of a body that is known
+
+other_kind : (k : ℕ) (f : Frame) (bytes : List ℕ) → (k ∷ bytes) ≡ body f → k ≡ get_or (body f) 0 0
+other_kind k f bytes e = ap (λ (bs : List ℕ). get_or bs 0 0) e
+
+known_fields : {A : Type 0} {f : Format A} (k : ℕ) (a : A) (bytes : List ℕ) → IsForm f → f.Fits a → (k ∷ bytes) ≡ k ∷ f.spelled a → f.read bytes ≡ Ok (a, [])
+known_fields {A} {f} k a bytes is h e =
+    ap f.read (ap (drop 1) e ∙ sym (append-nil (f.spelled a))) ∙ is.reads_back a [] h
+
+pub setup_known : (f : Frame) (bytes : List ℕ) → IsWell f → (1 ∷ bytes) ≡ body f
+    → (s : Setup) × (setup_fields.read bytes ≡ Ok (s, [])) × (frames.Setup s ≡ f)
+unfolding setup_fields
+setup_known (frames.Setup s) bytes h e = (s, known_fields 1 s bytes setup_is h e, refl)
+setup_known f bytes h e = absurd (omega (arith, other_kind 1 f bytes e))
+
+pub go_known : (f : Frame) (bytes : List ℕ) → IsWell f → (4 ∷ bytes) ≡ body f
+    → (g : Go) × (within_at 0 (2 ^ 32) bytes ≡ Ok (g.budget, [])) × (frames.Go g ≡ f)
+go_known (frames.Go g) bytes h e = (g, known_fields 4 g.budget bytes (number_is 0) (omega arith, h) e, refl)
+go_known f bytes h e = absurd (omega (arith, other_kind 4 f bytes e))
+
+pub report_known : (f : Frame) (bytes : List ℕ) → IsWell f → (5 ∷ bytes) ≡ body f
+    → (r : Report) × (report_fields.read bytes ≡ Ok (r, [])) × (frames.Report r ≡ f)
+unfolding report_fields
+report_known (frames.Report r) bytes h e = (r, known_fields 5 r bytes report_is h e, refl)
+report_known f bytes h e = absurd (omega (arith, other_kind 5 f bytes e))
+
+pub halt_known : (f : Frame) (bytes : List ℕ) → (6 ∷ bytes) ≡ body f → frames.Halt ≡ f
+halt_known frames.Halt bytes e = refl
+halt_known f bytes e = absurd (omega (arith, other_kind 6 f bytes e))
 
 -- bytes that a reader refused are the body of no well frame
 pub refused : (e : ReadFault) (x : FieldFault) (bytes : List ℕ) (f : Frame) → e ≡ faults.Field x → Fails e (body_at bytes) → IsWell f → bytes ≡ body f → ⊥

@@ -21,7 +21,7 @@ pub use Rattle.std.specs.Int.{from_be_bytes, w32}
 pub use Rattle.std.specs.Io.KnownBytes.{Appends, Consumes, IsAtEnd}
 pub use Rattle.std.specs.List.{AllPairs, flat_map, range_with_len}
 pub use Rattle.std.specs.Prelude.{All, Bool, Err, IfSome, List, None, Ok, Option, Result, Some, Vec, [], cond, drop, false, get_or, length}
-pub use Rattle.std.specs.Prelude.{ltb, map, min, nat_eq, nat_le, nat_lt, option_map, set, slice_index, suc, take, true, vec_capacity}
+pub use Rattle.std.specs.Prelude.{ltb, map, min, nat_eq, nat_le, nat_lt, not, option_map, set, slice_index, suc, take, true, vec_capacity}
 pub use Rattle.std.specs.Prelude.{vec_len, zero, ℕ, ⊤, ◌%◌, ◌&&◌, ◌*◌, ◌++◌, ◌+◌, ◌-◌, ◌/◌, ◌<◌, ◌==◌, ◌^◌, ◌||◌, ◌↔◌, ◌∷◌, ◌≡◌, ◌≢◌, ◌≤◌}
 pub use Rattle.std.specs.Prelude.{◌⊎◌}
 pub use Rattle.pg_wire.specs.Bytes.{IsReadFrom, IsTooLong, IsTruncated, IsWhole, Spells, length_field}
@@ -31,15 +31,16 @@ pub use Rattle.pg_wire.specs.LinesLeft.{AreLeft, IsNextLine}
 pub use Rattle.pg_wire.specs.LinesWritten.{AreWriting}
 pub use Rattle.pg_wire.specs.Measured.{IsMeasured, Measured, TellsMeasures, component_in, dense_value, filled, frame_of, kind_number}
 pub use Rattle.pg_wire.specs.Measured.{nonzero, nonzero_from, sparse_form, spelled_as, told_sparse, told_values}
+pub use Rattle.pg_wire.specs.Mirrors.Between.{IsListNext, IsNextVertex}
 pub use Rattle.pg_wire.specs.Mirrors.Buffers.{Extends}
-pub use Rattle.pg_wire.specs.Mirrors.Formats.{AreItems, Counted, Format, Kind, all_components, and_then, byte, components, counted_as, headed, listed, measured}
+pub use Rattle.pg_wire.specs.Mirrors.Formats.{AreItems, Counted, Format, Kind, all_components, and_then, byte, components, counted_as, headed, listed, some_places}
 pub use Rattle.pg_wire.specs.Mirrors.Formats.{nothing, number, odd, placed, places, rising, said, seen, so_many, version}
 pub use Rattle.pg_wire.specs.Mirrors.Formats.{within}
-unfoldable pub use Rattle.pg_wire.specs.Mirrors.Formats.{body_at, frame_at, go_fields, line_head, report_fields, setup_fields, sparse_fields}
+unfoldable pub use Rattle.pg_wire.specs.Mirrors.Formats.{body_at, frame_at, go_fields, line_head, measure, report_fields, setup_fields, sparse_fields}
 unfoldable pub use Rattle.pg_wire.specs.Mirrors.Formats.{values_fields, vertices_fields}
 pub use Rattle.pg_wire.specs.Mirrors.Lengths.{IsCounted}
 pub use Rattle.pg_wire.specs.Mirrors.Ordered.{Steps, falling, in_any_order}
-pub use Rattle.pg_wire.specs.Mirrors.Reading.{Fails, HasBytes, Reader, is_code, made, number_at, skipped, ◌>>=◌}
+pub use Rattle.pg_wire.specs.Mirrors.Reading.{Fails, Gives, HasBytes, Reader, both, is_code, made, number_at, skipped, ◌>>=◌}
 unfoldable pub use Rattle.pg_wire.specs.Mirrors.Reading.{byte_at, code_at, counted_at, headed_at, items_at, odd_at, version_at, within_at}
 pub use Rattle.pg_wire.specs.Spelling.{body, counted, line, longest, pair, sparse_value, spelling, value, word}
 pub use Rattle.pg_wire.specs.Well.{ArePlaces, IsBound, IsComponents, IsCountable, IsFaultCode, IsPlace, IsSetup, IsSparseValue}

@@ -78,7 +78,7 @@ values_is width = rising_is (λ low. seen_is (headed_is (all_components_is width
     (λ p h. (h.0.0, record { vertex = h.0.1; list = h.1 })) (λ v h. ((h.0, h.1.vertex), h.1.list)))
     (λ low v. refl) (λ low v h. h) (λ low v h. h) (λ v h. h.vertex)
 
-some_places_is : (width : ℕ) → width < 2 ^ 32 → IsForm (formats.some_places width)
+pub some_places_is : (width : ℕ) → width < 2 ^ 32 → IsForm (formats.some_places width)
 some_places_is width small = said_is (listed_is (places_is width small) 0 (width + 1) 0 (omega arith))
     (λ ps h. record { size = omega (arith, h.0.1); places = h.1.items; rising = h.1.order })
     (λ ps h. ((omega arith, omega (arith, h.size), omega (arith, h.size)), record { stand = from_zero (λ p. p.0) ps; items = h.places; order = h.rising }))
@@ -92,29 +92,22 @@ sparse_values_is width small = rising_is
 
 -- ---- measures, of either kind
 
-measure_is : (kind : ValueKind) (width : ℕ) → width < 2 ^ 32 → IsForm (formats.measure kind width)
+pub measure_is : (kind : ValueKind) (width : ℕ) → width < 2 ^ 32 → IsForm (formats.measure kind width)
 unfolding formats.measure
 measure_is Dense width small = all_components_is width
 measure_is Sparse width small = seen_is (some_places_is width small) (λ ps h. nonzero_filled width ps h) (λ ns h. filled_nonzero width ns h.size)
     (λ ps h. components_filled width ps h) (λ ns h. places_nonzero width ns h)
 
-spelt : (kind : ValueKind) (width : ℕ) (m : Measured) → word m.0 ++ tagged (formats.measure kind width).spelled m.1 ≡ spelled_as kind m
+pub spelt : (kind : ValueKind) (width : ℕ) (m : Measured) → word m.0 ++ tagged (formats.measure kind width).spelled m.1 ≡ spelled_as kind m
 unfolding formats.measure
 spelt Dense width m = refl
 spelt Sparse width (v, None) = refl
 spelt Sparse width (v, Some ns) = refl
 
-fits : (kind : ValueKind) (width : ℕ) (o : Option (List ℕ)) → IfSome o (formats.measure kind width).Fits ↔ IfSome o (IsComponents width)
+pub fits : (kind : ValueKind) (width : ℕ) (o : Option (List ℕ)) → IfSome o (formats.measure kind width).Fits ↔ IfSome o (IsComponents width)
 unfolding formats.measure
 fits Dense width o = (λ h. h, λ h. h)
 fits Sparse width o = (λ h. h, λ h. h)
-
-pub measures_is : (kind : ValueKind) (width : ℕ) → width < 2 ^ 32 → IsKind (formats.measures kind width) (2 ^ 32)
-unfolding formats.measured
-measures_is kind width small = rising_is
-    (λ low. headed_is (measure_is kind width small) low) (λ low m. spelt kind width m)
-    (λ low m h. (h.0.0, record { vertex = h.0.1; list = (fits kind width m.1).0 h.1 })) (λ low m h. ((h.0, h.1.vertex), (fits kind width m.1).1 h.1.list))
-    (λ m h. h.vertex)
 
 -- ---- codes of reports
 

@@ -200,7 +200,7 @@ headed_reads_only {A} {f} is v (suc n, bytes) x h lt e =
     let P : (ℕ × Option A) × List ℕ → Type 0 = λ y. Begins (word v ++ suc n ∷ bytes) (word y.0.0 ++ spelling.tagged f.spelled y.0.1) y.1 × (v ≡ y.0.0) × IfSome y.0.1 f.Fits in
     subst P (ok_is none x (rw one at e)) (record { parts = rw one refl; rest_fits = h }, refl, tt)
 
-head_is : (low : ℕ) → IsForm (and_then (number low) (λ _. byte 2))
+pub head_is : (low : ℕ) → IsForm (and_then (number low) (λ _. byte 2))
 head_is low = then_is (number_is low) (λ _ _. byte_is 2)
 
 headed_reads_back : {A : Type 0} {f : Format A} → IsForm f → (low : ℕ)

@@ -1,7 +1,7 @@
 -- The lines of a frame of vertices, one after the other.
 use Rattle.pg_wire.proofs.Common.{◌≡◌, ℕ, suc, ◌/◌, ◌<◌, List, [], ◌∷◌, ◌++◌, length, Some, None, Ok, Err, Bor, refl, sym, ap, ◌∙◌, arith}
-use Rattle.pg_wire.proofs.Common.{flat_map, length-append, flat_map-cons, FieldFault, LineHead, VertexLine, VerticesReader, word, line}
-use Rattle.pg_wire.proofs.Common.{head_of, AreLeft, IsNextLine, within_at, all_components, Counted, line_head, counted_as}
+use Rattle.pg_wire.proofs.Common.{append_assoc, append-nil, flat_map, length-append, flat_map-cons, FieldFault, LineHead, VertexLine, VerticesReader, word, line}
+use Rattle.pg_wire.proofs.Common.{head_of, line_with, AreLeft, IsNextLine, within_at, all_components, Counted, line_head, counted_as}
 use Rattle.pg_wire.proofs.Grammar.{ok_is}
 use Rattle.pg_wire.proofs.FrameFormats.{head_is, all_components_is}
 use Rattle.pg_wire.proofs.Orders.{pairs_tail}
@@ -70,3 +70,21 @@ next_left (l ∷ ls) r row head count rest after h read numbers =
         spelled = ap (λ (y : List ℕ × List ℕ). y.1) parts;
       },
     )
+
+-- ---- all lines
+
+-- these lines were read, and the others are left
+abbrev pub Collected : List VertexLine → List VertexLine → VerticesReader → Type 0
+Collected all read r = (ls : List VertexLine) × (all ≡ read ++ ls) × AreLeft r ls
+
+pub all_read : (all read ls : List VertexLine) (r : VerticesReader) (row : List ℕ) → IsNextLine ls r row None → all ≡ read ++ ls → all ≡ read
+all_read all read [] r row h e = e ∙ append-nil read
+all_read all read (l ∷ ls) r row h e = absurd (cc h.0)
+
+pub one_read : (all read ls : List VertexLine) (r : VerticesReader) (row : List ℕ) (head : LineHead) → IsNextLine ls r row (Some head) → all ≡ read ++ ls
+    → Collected all (read ++ line_with head row ∷ []) r
+one_read all read [] r row head h e = absurd (cc h.0)
+one_read all read (l ∷ ls) r row head h e =
+    let same : head ≡ head_of l = cc h.0 in
+    let line : l ≡ line_with head row = sym (ap (λ (x : LineHead). line_with x row) same ∙ ap (line_with (head_of l)) h.1) in
+    (ls, e ∙ ap (λ (x : VertexLine). read ++ x ∷ ls) line ∙ sym (append_assoc read (line_with head row ∷ []) ls), h.2)

@@ -2,5 +2,6 @@
 pub mod Reading
 pub mod Formats
 pub mod Ordered
+pub mod Between
 pub mod Buffers
 pub mod Lengths

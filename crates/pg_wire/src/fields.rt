@@ -1,7 +1,7 @@
 //! Reads the fields that are numbers.
 ghost use Rattle.std.specs.Prelude.{◌≡◌, ◌+◌, ◌≤◌, ◌<◌, ◌^◌, length, IfOk, OnErr};
 ghost use Rattle.pg_wire.specs.Mirrors.Reading.{Yields, within_at, odd_at, byte_at, version_at, code_at};
-ghost use Rattle.pg_wire.specs.Mirrors.Formats.{place};
+ghost use Rattle.pg_wire.specs.Mirrors.Formats.{bound, place};
 
 use crate::fault::FieldFault;
 use byteorder::{BigEndian, ByteOrder};
@@ -33,7 +33,8 @@ pub fn within(low: u64, high: u64, bytes: &[u8]) -> Result<(u32, &[u8]), FieldFa
 /// Reads an odd four-byte number below `high`.
 #[tactic(auto, unfolding(crate::specs::Mirrors::Reading::odd_at))]
 pub fn odd(high: u64, bytes: &[u8]) -> Result<(u32, &[u8]), FieldFault>
-    ensures { Yields (λ x. (x.0, x.1.now)) result (odd_at high bytes.now) }
+    ensures read { Yields (λ x. (x.0, x.1.now)) result (odd_at high bytes.now) }
+    ensures size { IfOk result (λ x. 4 + length x.1.now ≡ length bytes.now) }
 {
     let (n, rest) = within(1, high, bytes)?;
     if n % 2 == 1 {
@@ -41,6 +42,17 @@ pub fn odd(high: u64, bytes: &[u8]) -> Result<(u32, &[u8]), FieldFault>
     } else {
         Err(FieldFault::At(bytes.len()))
     }
+}
+
+/// Reads an odd priority below `high`, and its bound, which isn't 0.
+#[tactic(auto, unfolding(crate::specs::Mirrors::Formats::bound))]
+pub fn bound(high: u64, bytes: &[u8]) -> Result<((u32, u32), &[u8]), FieldFault>
+    ensures read { Yields (λ x. (x.0, x.1.now)) result ((bound high).read bytes.now) }
+    ensures size { IfOk result (λ x. 8 + length x.1.now ≡ length bytes.now) }
+{
+    let (priority, rest) = odd(high, bytes)?;
+    let (n, rest) = within(1, WORDS, rest)?;
+    Ok(((priority, n), rest))
 }
 
 /// Reads a place from `at` on and below the width, and the number there, which isn't 0.

@@ -1,5 +1,5 @@
 //! Lists of items that are spelled one after another.
-ghost use Rattle.std.specs.Prelude.{◌≡◌, ℕ, ◌↔◌, IsTrue, IfOk, vec_capacity};
+ghost use Rattle.std.specs.Prelude.{◌≡◌, ◌≤◌, ℕ, ◌↔◌, IsTrue, IfOk, length, vec_capacity};
 ghost use Rattle.pg_wire.specs.Mirrors.Reading.{Yields, Gives, made, skipped};
 ghost use Rattle.pg_wire.specs.Mirrors.Formats.{Kind, AreItems, so_many, listed};
 ghost use Rattle.pg_wire.specs.Mirrors.Ordered.{Steps};
@@ -16,14 +16,6 @@ pub trait Form {
     /// How the items of lists of a width are spelled, read and ordered.
     ghost kind: { ℕ → Kind Self.Item };
 
-    fn read(
-        alloc: Global,
-        width: u32,
-        place: u64,
-        bytes: &[u8],
-    ) -> Result<(Self::Item, &[u8]), ReadFault>
-        ensures { Gives (λ x. (x.0, x.1.now)) result ((kind width).read place bytes.now) };
-
     /// Returns the place that the next item gets, and the bytes after this item. It takes no memory.
     fn skip(width: u32, place: u64, bytes: &[u8]) -> Result<(u64, &[u8]), FieldFault>
         ensures { Yields (λ x. (x.0, x.1.now)) result (made (kind width).next ((kind width).read place) bytes.now) };
@@ -37,8 +29,15 @@ pub trait Form {
     ghost steps: { (width : ℕ) → Steps (kind width).Stands (kind width).Precedes (kind width).next };
 }
 
+/// A kind of item that can be read without taking memory.
+pub trait FlatForm: Form {
+    fn read(width: u32, place: u64, bytes: &[u8]) -> Result<(Self::Item, &[u8]), FieldFault>
+        ensures read { Yields (λ x. (x.0, x.1.now)) result ((Self.kind width).read place bytes.now) }
+        ensures less { IfOk result (λ x. length x.1.now ≤ length bytes.now) };
+}
+
 /// Reads `count` items. It reserves memory for all of them at once: the caller has found that the bytes spell that many.
-pub fn items<F: Form>(
+fn items<F: FlatForm>(
     alloc: Global,
     width: u32,
     count: u32,
@@ -46,13 +45,14 @@ pub fn items<F: Form>(
     bytes: &[u8],
 ) -> Result<(Vec<F::Item>, &[u8]), ReadFault>
     ensures read { Gives (λ x. (x.0.items, x.1.now)) result ((so_many (F.kind width) count place).read bytes.now) }
+    ensures less { IfOk result (λ x. length x.1.now ≤ length bytes.now) }
     ensures memory { IfOk result (λ x. vec_capacity x.0 ≡ count) }
 {
     let mut items = Vec::with_capacity(alloc, count as usize)?;
     let mut rest = bytes;
     let mut at = place;
     for _ in 0..count {
-        let (item, after) = F::read(alloc, width, at, rest)?;
+        let (item, after) = F::read(width, at, rest)?;
         at = F::place_after_item(&item);
         items.push_reserved(item);
         rest = after;
@@ -98,7 +98,7 @@ pub fn skip_counted<F: Form>(
 
 /// Reads a count, from `least` on and below `high`, and then that many items.
 #[tactic(auto, unfolding(crate::specs::Mirrors::Reading::counted_at))]
-pub fn counted<F: Form>(
+pub fn counted<F: FlatForm>(
     alloc: Global,
     width: u32,
     least: u64,
@@ -106,7 +106,8 @@ pub fn counted<F: Form>(
     place: u64,
     bytes: &[u8],
 ) -> Result<(Items<F::Item>, &[u8]), ReadFault>
-    ensures { Gives (λ x. (x.0, x.1.now)) result ((listed (F.kind width) least high place).read bytes.now) }
+    ensures read { Gives (λ x. (x.0, x.1.now)) result ((listed (F.kind width) least high place).read bytes.now) }
+    ensures less { IfOk result (λ x. length x.1.now ≤ length bytes.now) }
 {
     let (count, rest) = within(least, high, bytes)?;
     let (items, rest) = items::<F>(alloc, width, count, place, rest)?;

@@ -4,12 +4,10 @@ ghost use Rattle.pg_wire.specs.Mirrors.Reading.{Yields, both, within_at, byte_at
 ghost use Rattle.pg_wire.specs.Mirrors.Formats.{line_head, counted_as};
 ghost use Rattle.pg_wire.specs.Well.{IsComponents, ArePlaces};
 
-use crate::fault::{FieldFault, ReadFault};
-use crate::fields::{WORDS, byte, odd, pair, within};
-use crate::form::{Form, are_ordered, counted, items, skip_counted, skip_items};
+use crate::fault::FieldFault;
+use crate::fields::{WORDS, bound, byte, pair, within};
+use crate::form::{FlatForm, Form, are_ordered, skip_counted, skip_items};
 use crate::frame::{LineHead, SparseValue, Value, VertexLine};
-use crate::list::Items;
-use std::alloc::Global;
 
 /// The successors of a vertex, in rising order.
 pub struct SuccessorForm;
@@ -21,10 +19,6 @@ impl Form for SuccessorForm {
     type Item = u32;
 
     ghost kind = { λ _. successors };
-
-    fn read(_: Global, _: u32, place: u64, bytes: &[u8]) -> Result<(u32, &[u8]), ReadFault> {
-        Ok(within(place, WORDS, bytes)?)
-    }
 
     #[inline(always)]
     fn skip(_: u32, place: u64, bytes: &[u8]) -> Result<(u64, &[u8]), FieldFault> {
@@ -54,17 +48,8 @@ impl Form for BoundForm {
 
     ghost kind = { λ _. bounds };
 
-    #[tactic(auto, unfolding(crate::specs::Mirrors::Formats::bound))]
-    fn read(_: Global, _: u32, place: u64, bytes: &[u8]) -> Result<((u32, u32), &[u8]), ReadFault> {
-        let (priority, rest) = odd(place, bytes)?;
-        let (bound, rest) = within(1, WORDS, rest)?;
-        Ok(((priority, bound), rest))
-    }
-
-    #[tactic(auto, unfolding(crate::specs::Mirrors::Formats::bound))]
     fn skip(_: u32, place: u64, bytes: &[u8]) -> Result<(u64, &[u8]), FieldFault> {
-        let (priority, rest) = odd(place, bytes)?;
-        let (_, rest) = within(1, WORDS, rest)?;
+        let ((priority, _), rest) = bound(place, bytes)?;
         Ok((priority as u64, rest))
     }
 
@@ -80,6 +65,12 @@ impl Form for BoundForm {
     ghost steps = { λ _. falling (λ p. p.0) };
 }
 
+impl FlatForm for BoundForm {
+    fn read(_: u32, place: u64, bytes: &[u8]) -> Result<((u32, u32), &[u8]), FieldFault> {
+        bound(place, bytes)
+    }
+}
+
 /// The components of a measure.
 pub struct ComponentForm;
 
@@ -90,10 +81,6 @@ impl Form for ComponentForm {
     type Item = u32;
 
     ghost kind = { λ _. components };
-
-    fn read(_: Global, _: u32, _: u64, bytes: &[u8]) -> Result<(u32, &[u8]), ReadFault> {
-        Ok(within(0, WORDS, bytes)?)
-    }
 
     #[inline(always)]
     fn skip(_: u32, _: u64, bytes: &[u8]) -> Result<(u64, &[u8]), FieldFault> {
@@ -124,15 +111,6 @@ impl Form for PlaceForm {
 
     ghost kind = { places };
 
-    fn read(
-        _: Global,
-        width: u32,
-        place: u64,
-        bytes: &[u8],
-    ) -> Result<((u32, u32), &[u8]), ReadFault> {
-        Ok(pair(width, place, bytes)?)
-    }
-
     #[inline(always)]
     fn skip(width: u32, place: u64, bytes: &[u8]) -> Result<(u64, &[u8]), FieldFault> {
         let ((at, _), rest) = pair(width, place, bytes)?;
@@ -149,6 +127,12 @@ impl Form for PlaceForm {
     }
 
     ghost steps = { λ _. rising (λ p. p.0) };
+}
+
+impl FlatForm for PlaceForm {
+    fn read(width: u32, place: u64, bytes: &[u8]) -> Result<((u32, u32), &[u8]), FieldFault> {
+        pair(width, place, bytes)
+    }
 }
 
 /// Reads the head of a line, whose vertex is at least `place`, and the number of its successors.
@@ -180,24 +164,6 @@ impl Form for LineForm {
     type Item = VertexLine;
 
     ghost kind = { λ _. lines };
-
-    #[tactic(auto, unfolding(crate::specs::Mirrors::Formats::line))]
-    fn read(
-        alloc: Global,
-        _: u32,
-        place: u64,
-        bytes: &[u8],
-    ) -> Result<(VertexLine, &[u8]), ReadFault> {
-        let (head, count, rest) = head(place, bytes)?;
-        let (successors, rest) = items::<SuccessorForm>(alloc, 0, count, 0, rest)?;
-        let line = VertexLine {
-            vertex: head.vertex,
-            priority: head.priority,
-            owner: head.owner,
-            successors: Items::new(successors),
-        };
-        Ok((line, rest))
-    }
 
     #[tactic(auto, using(crate::proofs::Skip::passed, crate::proofs::Skip::refused), unfolding(crate::specs::Mirrors::Formats::line))]
     #[inline(always)]
@@ -253,22 +219,6 @@ impl Form for ValueForm {
 
     ghost kind = { values };
 
-    #[tactic(auto, unfolding(crate::specs::Mirrors::Formats::value, crate::specs::Mirrors::Reading::headed_at))]
-    fn read(
-        alloc: Global,
-        width: u32,
-        place: u64,
-        bytes: &[u8],
-    ) -> Result<(Value, &[u8]), ReadFault> {
-        let (vertex, tag, rest) = value_head(place, bytes)?;
-        if tag != 0 {
-            return Ok((Value { vertex, list: None }, rest));
-        }
-        let (list, rest) = items::<ComponentForm>(alloc, 0, width, 0, rest)?;
-        let list = Some(Items::new(list));
-        Ok((Value { vertex, list }, rest))
-    }
-
     #[tactic(auto, using(crate::proofs::Skip::passed, crate::proofs::Skip::refused), unfolding(crate::specs::Mirrors::Formats::value, crate::specs::Mirrors::Reading::headed_at))]
     #[inline(always)]
     fn skip(width: u32, place: u64, bytes: &[u8]) -> Result<(u64, &[u8]), FieldFault> {
@@ -312,26 +262,6 @@ impl Form for SparseValueForm {
     type Item = SparseValue;
 
     ghost kind = { sparse_values };
-
-    #[tactic(auto, unfolding(crate::specs::Mirrors::Formats::sparse_value, crate::specs::Mirrors::Reading::headed_at))]
-    fn read(
-        alloc: Global,
-        width: u32,
-        place: u64,
-        bytes: &[u8],
-    ) -> Result<(SparseValue, &[u8]), ReadFault> {
-        let (vertex, tag, rest) = value_head(place, bytes)?;
-        if tag != 0 {
-            let value = SparseValue {
-                vertex,
-                pairs: None,
-            };
-            return Ok((value, rest));
-        }
-        let (pairs, rest) = counted::<PlaceForm>(alloc, width, 0, width as u64 + 1, 0, rest)?;
-        let pairs = Some(pairs);
-        Ok((SparseValue { vertex, pairs }, rest))
-    }
 
     #[tactic(auto, using(crate::proofs::Skip::passed, crate::proofs::Skip::refused), unfolding(crate::specs::Mirrors::Formats::sparse_value, crate::specs::Mirrors::Reading::headed_at))]
     #[inline(always)]

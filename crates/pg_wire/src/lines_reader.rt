@@ -3,13 +3,15 @@ ghost use Rattle.std.specs.Prelude.{◌≡◌, ◌≢◌, ◌<◌, List, None, I
 ghost use Rattle.pg_wire.specs.declared.frame.VertexLine.{VertexLine};
 ghost use Rattle.pg_wire.specs.Bytes.{Spells};
 ghost use Rattle.pg_wire.specs.Lines.{frame_with};
+ghost use Rattle.pg_wire.specs.LinesLeft.{AreLeft};
 
 use crate::fields::{WORDS, within};
 use crate::forms::head;
-use crate::frame::LineHead;
+use crate::frame::{LineHead, VertexLine};
+use crate::list::Items;
 use crate::reader::read_numbers;
 use crate::reading::body_of;
-use std::alloc::AllocError;
+use std::alloc::{AllocError, Global};
 
 /// Reads the lines that are left of a frame of vertices.
 #[derive(Clone, Copy)]
@@ -65,4 +67,23 @@ impl<'a> VerticesReader<'a> {
         self.bytes = rest;
         Ok(Some(head))
     }
+}
+
+/// Collects all lines that a reader finds in the bytes. `count` is their number.
+pub fn read_lines(alloc: Global, count: u32, bytes: &[u8]) -> Result<Items<VertexLine>, AllocError>
+    ensures { (ls : List VertexLine) → AreLeft (record { bytes = bytes.entry }) ls → IfOk result (λ x. x ≡ ls) }
+{
+    let mut reader = VerticesReader { bytes };
+    let mut lines = Vec::with_capacity(alloc, count as usize)?;
+    let mut successors = Vec::new(alloc);
+    'each: while let Some(head) = reader.next(&mut successors)? {
+        lines.push(VertexLine {
+            vertex: head.vertex,
+            priority: head.priority,
+            owner: head.owner,
+            successors: Items::new(successors),
+        })?;
+        successors = Vec::new(alloc);
+    }
+    Ok(Items::new(lines))
 }

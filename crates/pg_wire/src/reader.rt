@@ -1,17 +1,24 @@
-//! Reads the measures of a frame one after another, from its bytes, without taking memory.
-ghost use Rattle.std.specs.Prelude.{◌≡◌, ◌≢◌, ◌+◌, ◌*◌, ◌≤◌, ◌<◌, List, Some, None, IfSome, IfOk, OnErr, length, cond, true};
+//! Reads the measures of a frame one after another, from its bytes.
+ghost use Rattle.std.specs.Prelude.{◌≡◌, ◌≢◌, ◌+◌, ◌*◌, ◌≤◌, ◌<◌, ℕ, List, None, IfSome, IfOk, IsOk, OnOk, OnErr, Ok, length, map};
 ghost use Rattle.pg_wire.specs.declared.kind.ValueKind.{ValueKind};
 ghost use Rattle.pg_wire.specs.declared.frame.Frame.{Frame};
 ghost use Rattle.pg_wire.specs.Bytes.{Spells};
-ghost use Rattle.pg_wire.specs.Measured.{Measured, filled, kind_number, frame_of, TellsMeasures};
-ghost use Rattle.pg_wire.specs.Mirrors.Reading.{Yields, made};
-ghost use Rattle.pg_wire.specs.Mirrors.Formats.{all_components, so_many, places, measure, measured};
+ghost use Rattle.pg_wire.specs.declared.kind.ValueKind.TheVariants.{Dense, Sparse};
+ghost use Rattle.pg_wire.specs.Left.{IsLeft, IsNext};
+ghost use Rattle.pg_wire.specs.Measured.{Measured, filled, nonzero, dense_value, sparse_form, kind_number, frame_of, TellsMeasures};
+ghost use Rattle.pg_wire.specs.Mirrors.Reading.{Yields, Gives, made};
+ghost use Rattle.pg_wire.specs.Mirrors.Formats.{all_components, so_many, places, measure};
+ghost use Rattle.pg_wire.specs.Mirrors.Between.{IsListNext, IsNextVertex};
 
-use crate::fault::FieldFault;
+use crate::fault::{FieldFault, ReadFault};
 use crate::fields::{WORDS, pair, within};
-use crate::forms::value_head;
+use crate::form::counted;
+use crate::forms::{PlaceForm, value_head};
+use crate::frame::{SparseValue, Value};
 use crate::kind::ValueKind;
+use crate::list::{Items, Numbers, Pairs};
 use crate::reading::body_of;
+use std::alloc::Global;
 
 /// Reads the measures that are left of a frame.
 #[derive(Clone, Copy)]
@@ -83,30 +90,6 @@ fn read_list<'a>(
     }
 }
 
-/// Reads the next vertex. Returns it, whether its measure is top, and the bytes after the measure. If the measure isn't
-/// top, its list is in the row.
-#[tactic(auto, unfolding(crate::specs::Mirrors::Formats::measured, crate::specs::Mirrors::Reading::headed_at))]
-#[inline(always)]
-fn read_value<'a>(
-    kind: ValueKind,
-    width: u32,
-    bytes: &'a [u8],
-    row: &mut [u32],
-) -> Result<(u32, bool, &'a [u8]), FieldFault>
-    requires { length row.old ≡ width }
-    ensures read { Yields (λ x. ((x.0, cond x.1 None (Some row.new)), x.2.now)) result
-        ((measured kind width 0).read bytes.now) }
-    ensures kept { IfOk result (λ x. x.1 ≡ true → row.new ≡ row.old) }
-    ensures less { IfOk result (λ x. length x.2.now < length bytes.now) }
-{
-    let (vertex, tag, rest) = value_head(0, bytes)?;
-    if tag != 0 {
-        return Ok((vertex, true, rest));
-    }
-    let rest = read_list(kind, width, rest, row)?;
-    Ok((vertex, false, rest))
-}
-
 /// Returns the kind of frames of measures that has this number, if there is one.
 fn kind_of(number: u8) -> Option<ValueKind>
     ensures found { IfSome result (λ kind. kind_number kind ≡ number) }
@@ -120,8 +103,6 @@ fn kind_of(number: u8) -> Option<ValueKind>
 }
 
 impl<'a> ValuesReader<'a> {
-    ghost use Rattle.pg_wire.specs.Left.{IsLeft, IsNext};
-
     /// Returns a reader of the measures in a frame, or None if the bytes, all of them, don't spell a frame of measures. It
     /// takes no memory.
     pub fn open(bytes: &'a [u8]) -> Option<ValuesReader<'a>>
@@ -158,6 +139,34 @@ impl<'a> ValuesReader<'a> {
         self.width
     }
 
+    /// Reads the next vertex, and returns it with true if its measure is top. If it isn't, its list comes next. Returns None
+    /// if no measure is left.
+    #[inline(always)]
+    fn next_vertex(&mut self) -> Option<(u32, bool)>
+        ensures of { (self.new.kind ≡ self.old.kind) × (self.new.width ≡ self.old.width) }
+        ensures less { IfSome result (λ _. length self.new.bytes.now < length self.old.bytes.now) }
+        ensures next { (ms : List Measured) → IsLeft self.old ms → IsNextVertex ms self.new result }
+    {
+        let Ok((vertex, tag, rest)) = value_head(0, self.bytes) else {
+            return None;
+        };
+        self.bytes = rest;
+        Some((vertex, tag != 0))
+    }
+
+    /// Reads the list that comes next into the row, which must have as many places as the width.
+    #[inline(always)]
+    fn read_row(&mut self, row: &mut [u32]) -> Result<(), FieldFault>
+        requires { length row.old ≡ self.old.width }
+        ensures of { (self.new.kind ≡ self.old.kind) × (self.new.width ≡ self.old.width) }
+        ensures less { length self.new.bytes.now ≤ length self.old.bytes.now }
+        ensures row { (list : List ℕ) → (ms : List Measured) → IsListNext self.old list ms
+            → IsOk result × (row.new ≡ list) × IsLeft self.new ms }
+    {
+        self.bytes = read_list(self.kind, self.width, self.bytes, row)?;
+        Ok(())
+    }
+
     /// Reads the next vertex, and returns it with true if its measure is top. If it isn't, the list is in the row, which
     /// must have as many places as the width. Returns None if no measure is left. In that case, and for top, the row stays
     /// as it was.
@@ -168,13 +177,88 @@ impl<'a> ValuesReader<'a> {
         ensures less { IfSome result (λ x. length self.new.bytes.now < length self.old.bytes.now) }
         ensures next { (ms : List Measured) → IsLeft self.old ms → IsNext ms self.new row.old row.new result }
     {
-        if self.bytes.is_empty() {
+        let (vertex, is_top) = self.next_vertex()?;
+        if !is_top && self.read_row(row).is_err() {
             return None;
         }
-        let Ok((vertex, is_top, rest)) = read_value(self.kind, self.width, self.bytes, row) else {
-            return None;
-        };
-        self.bytes = rest;
         Some((vertex, is_top))
     }
+
+    /// Reads the list that comes next into a vector of its own.
+    fn read_components(&mut self, alloc: Global) -> Result<Numbers, ReadFault>
+        ensures of { (self.new.kind ≡ self.old.kind) × (self.new.width ≡ self.old.width) }
+        ensures less { length self.new.bytes.now ≤ length self.old.bytes.now }
+        ensures list { (list : List ℕ) → (ms : List Measured) → IsListNext self.old list ms
+            → Gives (λ x. x) result (Ok list) × OnOk result (IsLeft self.new ms) }
+    {
+        let mut row = Vec::new(alloc);
+        row.resize(self.width as usize, 0)?;
+        self.read_row(row.as_mut_slice())?;
+        Ok(Items::new(row))
+    }
+
+    /// Reads the list that comes next in a sparse frame, as pairs.
+    fn read_pairs(&mut self, alloc: Global) -> Result<Pairs, ReadFault>
+        ensures of { (self.new.kind ≡ self.old.kind) × (self.new.width ≡ self.old.width) }
+        ensures less { length self.new.bytes.now ≤ length self.old.bytes.now }
+        ensures list { (list : List ℕ) → (ms : List Measured) → self.old.kind ≡ Sparse → IsListNext self.old list ms
+            → Gives (λ x. x) result (Ok (nonzero list)) × OnOk result (IsLeft self.new ms) }
+    {
+        let high = self.width as u64 + 1;
+        let (pairs, rest) = counted::<PlaceForm>(alloc, self.width, 0, high, 0, self.bytes)?;
+        self.bytes = rest;
+        Ok(pairs)
+    }
+}
+
+/// Collects all measures that a reader finds in the bytes, each as a list. `count` is their number.
+pub fn read_values(
+    alloc: Global,
+    width: u32,
+    count: u32,
+    bytes: &[u8],
+) -> Result<Items<Value>, ReadFault>
+    ensures { (ms : List Measured) → IsLeft (record { kind = Dense; width = width; bytes = bytes.entry }) ms
+        → Gives (λ x. x) result (Ok (map dense_value ms)) }
+{
+    let kind = ValueKind::Dense;
+    let mut reader = ValuesReader { kind, width, bytes };
+    let mut values = Vec::with_capacity(alloc, count as usize)?;
+    'each: while let Some((vertex, is_top)) = reader.next_vertex() {
+        let list = if is_top {
+            None
+        } else {
+            Some(reader.read_components(alloc)?)
+        };
+        if values.push(Value { vertex, list }).is_err() {
+            return Err(ReadFault::Memory);
+        }
+    }
+    Ok(Items::new(values))
+}
+
+/// Collects all measures that a reader finds in the bytes, each as pairs. `count` is their number.
+pub fn read_sparse_values(
+    alloc: Global,
+    width: u32,
+    count: u32,
+    bytes: &[u8],
+) -> Result<Items<SparseValue>, ReadFault>
+    ensures { (ms : List Measured) → IsLeft (record { kind = Sparse; width = width; bytes = bytes.entry }) ms
+        → Gives (λ x. x) result (Ok (map sparse_form ms)) }
+{
+    let kind = ValueKind::Sparse;
+    let mut reader = ValuesReader { kind, width, bytes };
+    let mut values = Vec::with_capacity(alloc, count as usize)?;
+    'each: while let Some((vertex, is_top)) = reader.next_vertex() {
+        let pairs = if is_top {
+            None
+        } else {
+            Some(reader.read_pairs(alloc)?)
+        };
+        if values.push(SparseValue { vertex, pairs }).is_err() {
+            return Err(ReadFault::Memory);
+        }
+    }
+    Ok(Items::new(values))
 }

@@ -1,7 +1,7 @@
 //! Reads frames from bytes.
-ghost use Rattle.std.specs.Prelude.{◌≡◌, ◌≢◌, ◌⊎◌, Ok, Err, IfOk, IfErr, IfSome, IfNone, ◌↔◌};
+ghost use Rattle.std.specs.Prelude.{◌≡◌, ◌≢◌, ◌⊎◌, ◌∷◌, Ok, Err, IfOk, IfErr, IfSome, IfNone, ◌↔◌};
 ghost use Rattle.pg_wire.specs.Mirrors.Reading.{Yields, Gives, skipped};
-ghost use Rattle.pg_wire.specs.Mirrors.Formats.{setup_fields, frame_at, body_at};
+ghost use Rattle.pg_wire.specs.Mirrors.Formats.{setup_fields, report_fields, frame_at, body_at};
 ghost use Rattle.pg_wire.specs.Mirrors.Lengths.{IsCounted};
 ghost use Rattle.pg_wire.specs.Spelling.{body};
 ghost use Rattle.pg_wire.specs.Well.{IsWell};
@@ -14,6 +14,8 @@ use crate::fields::{WORDS, byte, code, version, within};
 use crate::form::{counted, skip_counted};
 use crate::forms::{BoundForm, LineForm, SparseValueForm, ValueForm};
 use crate::frame::{Frame, Go, Report, Setup, Sparse, Values, Vertices};
+use crate::lines_reader::read_lines;
+use crate::reader::{read_sparse_values, read_values};
 use byteorder::{BigEndian, ByteOrder};
 use std::alloc::Global;
 
@@ -37,7 +39,7 @@ pub fn after_length(bytes: &[u8]) -> Option<&[u8]>
 }
 
 /// Returns the bytes after the fields of a frame of this kind. It takes no memory.
-#[tactic(auto, using(crate::proofs::Skip::passed, crate::proofs::Skip::refused), unfolding(crate::specs::Mirrors::Formats::frame_at, crate::specs::Mirrors::Formats::setup_fields, crate::specs::Mirrors::Formats::vertices_fields, crate::specs::Mirrors::Formats::values_fields, crate::specs::Mirrors::Formats::sparse_fields, crate::specs::Mirrors::Formats::go_fields, crate::specs::Mirrors::Formats::report_fields))]
+#[tactic(auto, using(crate::proofs::Skip::passed, crate::proofs::Skip::refused), unfolding(crate::specs::Mirrors::Formats::frame_at, crate::specs::Mirrors::Formats::setup_fields, crate::specs::Mirrors::Formats::vertices_fields, crate::specs::Mirrors::Formats::values_fields, crate::specs::Mirrors::Formats::sparse_fields, crate::specs::Mirrors::Formats::go_fields))]
 #[inline(always)]
 fn skip_fields(kind: u8, bytes: &[u8]) -> Result<&[u8], FieldFault>
     ensures { Yields (λ x. x.now) result (skipped (frame_at kind) bytes.now) }
@@ -58,8 +60,7 @@ fn skip_fields(kind: u8, bytes: &[u8]) -> Result<&[u8], FieldFault>
             Ok(rest)
         }
         5 => {
-            let (status, rest) = byte(3, bytes)?;
-            let (_, rest) = code(status, rest)?;
+            let (_, rest) = report(bytes)?;
             Ok(rest)
         }
         6 => Ok(bytes),
@@ -119,39 +120,50 @@ fn setup(alloc: Global, bytes: &[u8]) -> Result<(Setup, &[u8]), ReadFault>
     Ok((setup, rest))
 }
 
-/// Reads the fields of a frame of this kind.
-#[tactic(auto, unfolding(crate::specs::Mirrors::Formats::frame_at, crate::specs::Mirrors::Formats::vertices_fields, crate::specs::Mirrors::Formats::values_fields, crate::specs::Mirrors::Formats::sparse_fields, crate::specs::Mirrors::Formats::go_fields, crate::specs::Mirrors::Formats::report_fields))]
-fn frame(alloc: Global, kind: u8, bytes: &[u8]) -> Result<(Frame, &[u8]), ReadFault>
-    ensures { Gives (λ x. (x.0, x.1.now)) result (frame_at kind bytes.now) }
+/// Reads the fields of a report.
+#[tactic(auto, unfolding(crate::specs::Mirrors::Formats::report_fields))]
+fn report(bytes: &[u8]) -> Result<(Report, &[u8]), FieldFault>
+    ensures { Yields (λ x. (x.0, x.1.now)) result (report_fields.read bytes.now) }
+{
+    let (status, rest) = byte(3, bytes)?;
+    let (code, rest) = code(status, rest)?;
+    Ok((Report { status, code }, rest))
+}
+
+/// Reads the frame of this kind whose fields are these bytes, which have been checked.
+fn frame(alloc: Global, kind: u8, bytes: &[u8]) -> Result<Frame, ReadFault>
+    ensures { (f : Frame) → IsWell f → (kind ∷ bytes.now) ≡ body f → Gives (λ x. x) result (Ok f) }
 {
     match kind {
         1 => {
-            let (setup, rest) = setup(alloc, bytes)?;
-            Ok((Frame::Setup(setup), rest))
+            let (setup, _) = setup(alloc, bytes)?;
+            Ok(Frame::Setup(setup))
         }
         2 => {
-            let (lines, rest) = counted::<LineForm>(alloc, 0, 0, WORDS, 0, bytes)?;
-            Ok((Frame::Vertices(Vertices { lines }), rest))
+            let (count, rest) = within(0, WORDS, bytes)?;
+            let lines = read_lines(alloc, count, rest)?;
+            Ok(Frame::Vertices(Vertices { lines }))
         }
         3 => {
-            let (width, rest) = within(0, 32_769, bytes)?;
-            let (values, rest) = counted::<ValueForm>(alloc, width, 0, WORDS, 0, rest)?;
-            Ok((Frame::Values(Values { width, values }), rest))
+            let (width, rest) = within(0, WORDS, bytes)?;
+            let (count, rest) = within(0, WORDS, rest)?;
+            let values = read_values(alloc, width, count, rest)?;
+            Ok(Frame::Values(Values { width, values }))
         }
         4 => {
-            let (budget, rest) = within(0, WORDS, bytes)?;
-            Ok((Frame::Go(Go { budget }), rest))
+            let (budget, _) = within(0, WORDS, bytes)?;
+            Ok(Frame::Go(Go { budget }))
         }
         5 => {
-            let (status, rest) = byte(3, bytes)?;
-            let (code, rest) = code(status, rest)?;
-            Ok((Frame::Report(Report { status, code }), rest))
+            let (report, _) = report(bytes)?;
+            Ok(Frame::Report(report))
         }
-        6 => Ok((Frame::Halt, bytes)),
+        6 => Ok(Frame::Halt),
         7 => {
-            let (width, rest) = within(0, 32_769, bytes)?;
-            let (values, rest) = counted::<SparseValueForm>(alloc, width, 0, WORDS, 0, rest)?;
-            Ok((Frame::Sparse(Sparse { width, values }), rest))
+            let (width, rest) = within(0, WORDS, bytes)?;
+            let (count, rest) = within(0, WORDS, rest)?;
+            let values = read_sparse_values(alloc, width, count, rest)?;
+            Ok(Frame::Sparse(Sparse { width, values }))
         }
         _ => Err(ReadFault::Field(FieldFault::Kind)),
     }
@@ -165,10 +177,7 @@ fn frame_of_body(alloc: Global, bytes: &[u8]) -> Result<Frame, ReadFault>
     check_body(bytes)?;
     match bytes {
         [] => Err(ReadFault::Field(FieldFault::Kind)),
-        [kind, rest @ ..] => {
-            let (frame, _) = frame(alloc, *kind, rest)?;
-            Ok(frame)
-        }
+        [kind, rest @ ..] => frame(alloc, *kind, rest),
     }
 }
 

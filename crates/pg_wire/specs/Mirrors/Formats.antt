@@ -20,7 +20,7 @@ use Rattle.pg_wire.specs.declared.kind.ValueKind.{ValueKind}
 use Rattle.pg_wire.specs.declared.kind.ValueKind.TheVariants.{Dense, Sparse as SparseKind}
 use Rattle.pg_wire.specs.Spelling as spelling
 use Rattle.pg_wire.specs.Spelling.{word, pair}
-use Rattle.pg_wire.specs.Measured.{Measured, IsMeasured, nonzero, filled, spelled_as}
+use Rattle.pg_wire.specs.Measured.{nonzero, filled}
 use Rattle.pg_wire.specs.Well.{IsWord, IsBound, IsSetup, IsVertexLine, IsVertices, IsComponents, IsValue, IsValues, IsPlace, ArePlaces}
 use Rattle.pg_wire.specs.Well.{IsSparseValue, IsSparse, IsFaultCode, IsReport}
 use Rattle.pg_wire.specs.Mirrors.Ordered.{AreOrdered}
@@ -196,12 +196,6 @@ sparse_values width = rising (λ v. v.vertex) spelling.sparse_value (IsSparseVal
 unfoldable pub measure : ValueKind → ℕ → Format (List ℕ)
 measure Dense width = all_components width
 measure SparseKind width = seen (filled width) nonzero (IsComponents width) (some_places width)
-
-unfoldable pub measured : ValueKind → ℕ → ℕ → Format Measured
-measured kind width low = headed low (measure kind width)
-
-abbrev pub measures : ValueKind → ℕ → Kind Measured
-measures kind width = rising (λ m. m.0) (spelled_as kind) (IsMeasured width) (λ low. (measured kind width low).read)
 
 -- ---- the fields of each kind of frame
 
