@@ -64,6 +64,11 @@ budget 200 0
 even 200 0
 flat_hub 1000000 0
 rising_hub 1000000 0
+geometric 1000000 12
+bipartite 100000 1000
+bipartite_wide 100000 60000
+lists 1024 0
+longway 8000 250
 """
 
 
