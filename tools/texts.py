@@ -7,7 +7,7 @@ import sys
 
 HERE = pathlib.Path(__file__).resolve()
 # in a checkout, or in an installation
-PROGRAM = next((it for it in (HERE.parents[1] / "parsolve", *(up / "bin/parsolve" for up in HERE.parents[3:4])) if it.is_file()),
+PROGRAM = next((it for it in (HERE.parents[1] / "parsolve", *(up / "bin/parsolve" for up in list(HERE.parents)[3:4])) if it.is_file()),
                pathlib.Path("parsolve"))
 LONGEST_INPUT, GREATEST_NUMBER = 268435456, 4294967295
 AUTOMATON_BLANKS, COMMENT_MARK = re.compile(rb"[\t\n\r ]*"), re.compile(rb"/\*|\*/")
