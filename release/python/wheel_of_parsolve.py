@@ -25,9 +25,16 @@ def row(name, content):
     return f"{name},sha256={digest},{len(content)}\n"
 
 
+def library():
+    """The shared object: the package's own, or the one in the folder lib/ beside this folder."""
+    own, other = PACKAGE / "libparsolve.so", PACKAGE.parent.parent / "lib/libparsolve.so"
+    return own if own.is_file() or not other.is_file() else other
+
+
 def build_wheel(wheel_directory, config_settings=None, metadata_directory=None):
     """Writes the wheel into the folder, and returns its name."""
-    files = {f"parsolve/{name}": (PACKAGE / name).read_bytes() for name in ("__init__.py", "py.typed", "libparsolve.so")}
+    files = {f"parsolve/{name}": (PACKAGE / name).read_bytes() for name in ("__init__.py", "py.typed")}
+    files["parsolve/libparsolve.so"] = library().read_bytes()
     files |= {f"{NAME}.dist-info/METADATA": METADATA.encode(), f"{NAME}.dist-info/WHEEL": WHEEL.encode()}
     record = f"{NAME}.dist-info/RECORD"
     rows = "".join(row(name, content) for name, content in files.items()) + f"{record},,\n"

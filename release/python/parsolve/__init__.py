@@ -96,8 +96,10 @@ class _Text(ctypes.Structure):
 
 
 def _library():
+    """The library that PARSOLVE_LIBRARY names, or the one beside this file, or the one in the folder lib/ beside python/."""
     here = pathlib.Path(__file__).resolve().parent
-    library = ctypes.CDLL(os.environ.get("PARSOLVE_LIBRARY") or str(here / "libparsolve.so"))
+    own, other = here / "libparsolve.so", here.parent.parent / "lib/libparsolve.so"
+    library = ctypes.CDLL(os.environ.get("PARSOLVE_LIBRARY") or str(own if own.is_file() or not other.is_file() else other))
     for name in ("parsolve_solve", "parsolve_check", "parsolve_answer_new"):
         getattr(library, name).restype = ctypes.c_uint32
     return library
