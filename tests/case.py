@@ -3,16 +3,29 @@ import inspect
 import multiprocessing
 import os
 import pathlib
+import re
 import shutil
 import subprocess
+import sys
+import time
 import traceback
 import unittest
-from concurrent.futures import ProcessPoolExecutor, as_completed
+from concurrent.futures import FIRST_COMPLETED, ProcessPoolExecutor, wait
+
+try:
+    import tomllib
+except ImportError:  # before Python 3.11
+    tomllib = None
 
 TOP = pathlib.Path(__file__).resolve().parent.parent
+START, PACE = time.monotonic(), 60  # seconds between two reports of how far the tests are
 PROGRAM, BY_RATTLE, IS_PROVING = None, None, False  # the programs to try, and whether tests may prove something: ./test sets them first
 LeftOut = unittest.SkipTest  # instead of why something fails: why it isn't tried here
 TESTS = []
+
+
+class Wrong(AssertionError):
+    """Why a part of a test fails, in a text that says all of it."""
 
 
 def why_wrong(why, *wanted):
@@ -31,7 +44,7 @@ def fail_for(why):
     if isinstance(why, LeftOut):
         raise why
     if why is not None:
-        raise AssertionError(why)
+        raise Wrong(why)
 
 
 def tests(module, *functions):
@@ -65,7 +78,14 @@ def fresh(crate):
 def lacking(*commands):
     """Why a test that needs these commands is left out, or None."""
     names = [it for it in commands if shutil.which(it) is None]
-    return LeftOut(f"{' and '.join(names)} isn't installed") if names else None
+    return LeftOut(f"{' and '.join(names)} {'isn' if len(names) == 1 else 'aren'}'t installed") if names else None
+
+
+def rows_in(name):
+    """What a file of rows/ holds."""
+    if tomllib is None:
+        raise LeftOut("only Python 3.11 and newer read the files of rows/")
+    return tomllib.loads((TOP / "rows" / name).read_text())
 
 
 class Result(unittest.TestResult):
@@ -89,8 +109,8 @@ class Result(unittest.TestResult):
         self.left_out.append((reason, test.id().partition(".")[0]))
 
     def addError(self, test, error):
-        is_told = issubclass(error[0], AssertionError)
-        self.faults.append(f"{test.id()}: {error[1] if is_told else ''.join(traceback.format_exception(*error))}")
+        why = error[1] if issubclass(error[0], Wrong) else "".join(traceback.format_exception(*error))
+        self.faults.append(f"{test.id()}: {why}")
 
     addFailure = addError
 
@@ -107,18 +127,36 @@ def attempt(place):
     return result.passed, result.faults, result.left_out
 
 
-def run(modules, word=None, at_once=None):
-    """Runs the tests of these modules, `at_once` at a time, or as many as there are processors; only those whose name has the word, if one
-    is given. Answers how many parts passed and failed, and for each that was left out the reason and its module."""
+def load(modules, word=None):
+    """The places in TESTS of the tests of these modules; only of those whose name has the word, if one is given."""
     loader = unittest.TestLoader()
     loader.testNamePatterns = word and [f"*{word}*"]
     first = len(TESTS)
     TESTS.extend(flat(loader.loadTestsFromNames(modules)))
-    passed, failed, left_out = 0, 0, []
-    with ProcessPoolExecutor(at_once or len(os.sched_getaffinity(0)), multiprocessing.get_context("fork")) as pool:
-        for ended in as_completed([pool.submit(attempt, place) for place in range(first, len(TESTS))]):
-            good, faults, more = ended.result()
-            passed, failed, left_out = passed + good, failed + len(faults), left_out + more
-            for fault in faults:
-                print(fault, flush=True)
+    return range(first, len(TESTS))
+
+
+def run(places, at_once=None):
+    """Runs the tests at these places, `at_once` at a time, or as many as there are processors. Answers how many parts passed and failed, and
+    for each that was left out the reason and its module."""
+    passed, failed, left_out, told = 0, 0, [], time.monotonic()
+    at_once = at_once or len(os.sched_getaffinity(0))
+    with ProcessPoolExecutor(at_once, multiprocessing.get_context("fork")) as pool:
+        open_tests = {pool.submit(attempt, place): place for place in places}
+        while open_tests:
+            for ended in wait(open_tests, max(0, told + PACE - time.monotonic()), FIRST_COMPLETED).done:
+                del open_tests[ended]
+                good, faults, more = ended.result()
+                passed, failed, left_out = passed + good, failed + len(faults), left_out + more
+                for fault in faults:
+                    print(fault, flush=True)
+            if open_tests and time.monotonic() >= told + PACE:
+                told = time.monotonic()
+                tell(places.stop - len(open_tests), list(open_tests.values())[:at_once])
     return passed, failed, left_out
+
+
+def tell(done, running):
+    """Says on stderr how far the tests are. Tests begin in their order, so those that run are the first ones that haven't ended."""
+    names = ", ".join(re.sub(r"\.Tests\.test[ _]", " ", TESTS[place].id()) for place in running)
+    print(f"test: {done} of {len(TESTS)} tests are done after {(time.monotonic() - START) / 60:.0f} min; running: {names}", file=sys.stderr, flush=True)

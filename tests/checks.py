@@ -7,7 +7,6 @@ import shlex
 import socket
 import subprocess
 import tempfile
-import tomllib
 
 import case
 import closed
@@ -448,9 +447,7 @@ def any_solutions_win(program, games):
 
 def solved_by_rows():
     """The games that `solve` answers in rows/, with their answers there."""
-    with open(os.path.join(top, "rows/solve.toml"), "rb") as file:
-        found = tomllib.load(file)["row"]
-    return [(table.input_of(row).decode().rstrip("\n") + "\n", table.bytes_of(row, "stdout").decode()) for row in found
+    return [(table.input_of(row).decode().rstrip("\n") + "\n", table.bytes_of(row, "stdout").decode()) for row in case.rows_in("solve.toml")["row"]
             if row["args"] == ["solve"] and "blanks" not in row and ("stdout" in row or "stdout_file" in row)]
 
 

@@ -24,7 +24,7 @@ def wait_for(other):
     # of two libraries side by side neither ends before both have begun
     notes, kept = pathlib.Path(os.environ["NOTES"]), pathlib.Path(other.folder, "out/rlib/stamp")
     for _ in range(1000):
-        if f"start {other.name}" in notes.read_text() or kept.exists() or "FITS" in os.environ:
+        if at_once() == 1 or f"start {other.name}" in notes.read_text() or kept.exists():
             return
         time.sleep(0.02)
 class Crate:
@@ -68,6 +68,8 @@ def guarded():
     return []
 def fits(*needs):
     return len(needs) <= int(os.environ.get("FITS", "4"))
+def at_once():
+    return min(len(os.sched_getaffinity(0)), int(os.environ.get("FITS", "4")))
 '''
 RT = '''#!/bin/sh
 [ "$1" = version ] && echo "the test's kit" && exit
@@ -92,6 +94,20 @@ class Tests(unittest.TestCase):
     def test_it(self):
         sys.stdout.write(f"{__name__} {case.PROGRAM} {case.BY_RATTLE} {case.IS_PROVING}\\n")
         sys.stdout.flush()
+'''
+
+
+# one whose tests fail, and take a while
+FAILING = '''
+import time
+import unittest
+class Tests(unittest.TestCase):
+    def test_assertion(self):
+        time.sleep(1)
+        assert 1 == 2, 'of two\\nlines'
+    def test_exception(self):
+        time.sleep(1)
+        raise ValueError('other')
 '''
 
 
@@ -151,6 +167,11 @@ class Copy:
         status, _, errors, asked = self.ended(self.start("build", words, **more))
         return status, errors, asked
 
+    def clean(self):
+        """Removes whatever was built."""
+        for folder in self.top.glob("crates/*/out"):
+            shutil.rmtree(folder)
+
     def release(self):
         """Puts a program, which says that it is released, and a library into release/, as if built from these sources."""
         self.build()
@@ -172,38 +193,65 @@ class Copy:
         return asked or (status, [line for line in output.splitlines() if not line.startswith("tests: ")])
 
 
+AT_ONCE = min(len(os.sched_getaffinity(0)), 4)  # how many libraries ./build proves at a time: more of them don't fit into the stand-in's memory
 RIGHT = (0, "solve two words\nthe input\n", "", [])
 STALE = "parsolve: crates/parsolve/out/parsolve wasn't built from these sources, and there is no release/bin/parsolve\n"
 UNBUILT = "parsolve: there is no crates/parsolve/out/parsolve, and there is no release/bin/parsolve\n"
 HOW = "parsolve: ./build proves and builds it\n"
 
 
-def refused(copy, why=STALE):
-    """Whether a use says why there is no program and how to build it, runs none, and proves nothing."""
-    return copy.use() == (1, "", why + HOW, [])
+def refused(why=STALE):
+    """A use that says why there is no program and how to build it, runs none, and proves nothing."""
+    return 1, "", why + HOW, []
+
+
+def proof(crate, processes):
+    """What the toolchain is asked for the proof of a library by so many processes: by statements if it is one."""
+    return [f"start {crate}", f"end {crate}{'' if processes > 1 else ' by statements'}"]
+
+
+def build_proofs(at_once):
+    """The same for a first build that proves so many libraries at a time; `left` and `right` are independent, and come in any order."""
+    low, left, right = (proof(*it) for it in (("low", at_once), ("left", at_once // 2), ("right", at_once // 2)))
+    return [*low, *([left, right] if at_once == 1 else zip(left, right)), "run"]
+
+
+def in_any_order(asked, at_once):
+    """What was asked, in the form of `build_proofs`."""
+    if len(asked) != 7:
+        return asked
+    middle = [asked[2:4], asked[4:6]]
+    return [*asked[:2], *(sorted(middle) if at_once == 1 else (tuple(sorted(it)) for it in middle)), *asked[6:]]
 
 
 def first_build(copy):
-    """Nothing is proved unasked. ./build proves the libraries, independent ones at once, and names the kit; then the program runs."""
-    was_refused = refused(copy, UNBUILT)
-    status, errors, asked = copy.build()
-    return was_refused and status == 0 and asked[:2] == ["start low", "end low"] and {*asked[2:4]} == {"start left", "start right"} \
-        and {*asked[4:6]} == {"end left", "end right"} and asked[6:] == ["run"] and "by the test's kit\n" in errors and copy.use() == RIGHT
+    """Nothing is proved unasked. ./build proves the libraries, independent ones at once if there are the processors and the memory, and names
+    the kit; then the program runs."""
+    yield "before", copy.use(), refused(UNBUILT)
+    for at_once in range(1, AT_ONCE + 1):
+        copy.clean()
+        status, errors, asked = copy.build(FITS=str(at_once))
+        yield f"{at_once} at once", (status, in_any_order(asked, at_once)), (0, build_proofs(at_once))
+        yield f"{at_once} at once: the kit", errors if "by the test's kit\n" not in errors else None
+        yield f"{at_once} at once: the program", copy.use(), RIGHT
 
 
 def later_uses(copy):
     """The program runs if nothing changed, and after a change of a crate of tests."""
     copy.build()
-    ran = copy.use()
+    yield "the first", copy.use(), RIGHT
     copy.write(copy.source("low_tests"), "changed")
-    return ran == copy.use() == copy.use() == RIGHT
+    yield "the second, after a change of tests", copy.use(), RIGHT
+    yield "the third", copy.use(), RIGHT
 
 
 def changes(copy):
     """After a change of a library the program is refused; ./build proves it and the crates that use it, and nothing else."""
     copy.build()
     copy.write(copy.source("left"), "changed")
-    return refused(copy) and copy.build()[2] == ["start left", "end left", "run"] and copy.use() == RIGHT
+    yield "before", copy.use(), refused()
+    yield "what is proved", copy.build()[2], [*proof("left", AT_ONCE), "run"]
+    yield "after", copy.use(), RIGHT
 
 
 def set_back(copy):
@@ -214,9 +262,9 @@ def set_back(copy):
     times = (source.stat().st_atime_ns, source.stat().st_mtime_ns)
     copy.write(source, "tfel")
     os.utime(source, ns=times)
-    is_found = refused(copy)
+    yield "of the same size and time", copy.use(), refused()
     os.utime(program, (time.time() + 1e6,) * 2)
-    return is_found and refused(copy)
+    yield "older than the program", copy.use(), refused()
 
 
 def laid_over(copy):
@@ -226,13 +274,13 @@ def laid_over(copy):
     time.sleep(0.02)
     copy.write(copy.source("left"), "newer")
     copy.build()
-    ran = copy.use()
+    yield "before", copy.use(), RIGHT
     newer = copy.top.parent / "newer"
     shutil.copytree(copy.top / "crates/left", newer / "crates/left")
     subprocess.run(["cp", "-pr", f"{older}/crates", copy.top], check=True)
-    is_found = refused(copy)
+    yield "the older one", copy.use(), refused()
     subprocess.run(f"tar cf - -C '{newer}' crates | tar xf - -C '{copy.top}'", shell=True, check=True)
-    return is_found and ran == copy.use() == RIGHT
+    yield "back again", copy.use(), RIGHT
 
 
 def other_lines(copy):
@@ -240,33 +288,34 @@ def other_lines(copy):
     copy.build()
     lines = (copy.top / "crates.txt").read_text()
     copy.write(copy.top / "crates.txt", f"# of tests\n{lines}other_tests: low\n")
-    ran = copy.use()
+    yield "a line of tests", copy.use(), RIGHT
     copy.write(copy.top / "crates.txt", lines.replace("right: low", "right: low left"))
-    return ran == RIGHT and refused(copy)
+    yield "another line of a crate", copy.use(), refused()
 
 
 def moved_sources(copy):
     """A source that is gone, or new, is found."""
     copy.build()
     copy.write(copy.source("left").with_name("more.rt"), "more")
-    is_found = refused(copy)
+    yield "new", copy.use(), refused()
     copy.source("left").with_name("more.rt").unlink()
-    ran = copy.use()
+    yield "as before", copy.use(), RIGHT
     copy.source("right").unlink()
-    return is_found and ran == RIGHT and refused(copy)
+    yield "gone", copy.use(), refused()
 
 
 def other_programs(copy):
     """A program that is empty, or isn't the one that was built, doesn't run."""
     copy.build()
     program = copy.top / "crates/parsolve/out/parsolve"
-    text, before = program.read_text(), copy.use()
+    text = program.read_text()
+    yield "the program", copy.use(), RIGHT
     copy.write(program, text.replace("echo", "echo other"))
-    is_found = refused(copy)
+    yield "another one", copy.use(), refused()
     copy.write(program, "")
-    is_missed = refused(copy, UNBUILT)
+    yield "an empty one", copy.use(), refused(UNBUILT)
     copy.write(program, text)
-    return is_found and is_missed and before == copy.use() == RIGHT
+    yield "the program again", copy.use(), RIGHT
 
 
 def fewer_tools(copy):
@@ -274,13 +323,14 @@ def fewer_tools(copy):
     copy.build()
     for name in ("fresh", "sources"):
         (copy.top / "tools" / name).chmod(0o644)
-    ran = copy.use()
+    yield "without run bits", copy.use(), RIGHT
     for name in ("sh", "awk", "cat", "cut", "dirname", "grep", "mkdir", "mv", "readlink", "sha256sum", "sort", "xargs"):
         (copy.kit / name).symlink_to(shutil.which(name))
     status, output, errors, _ = copy.use(PATH=str(copy.kit))
+    yield "without find", (status, output, errors[-len(STALE + HOW):]), (1, "", STALE + HOW)
     (copy.top / "tools/fresh").unlink()
-    gone = copy.use()
-    return ran == RIGHT and (status, output) == gone[:2] == (1, "") and errors.endswith(STALE + HOW) and gone[2].endswith(HOW)
+    status, output, errors, _ = copy.use()
+    yield "without tools/fresh", (status, output, errors[-len(HOW):]), (1, "", HOW)
 
 
 def sums(copy):
@@ -288,11 +338,12 @@ def sums(copy):
     copy.build()
     copy.write(copy.kit / "sha256sum", f'#!/bin/sh\necho sum >> "$NOTES"\nexec {shutil.which("sha256sum")} "$@"\n')
     (copy.kit / "sha256sum").chmod(0o755)
-    first, second = copy.use(), copy.use()
+    made = (*RIGHT[:3], ["sum"] * 3)
+    yield "the first use", copy.use(), made
+    yield "the second", copy.use(), RIGHT
     copy.source("left").touch()
-    third, fourth = copy.use(), copy.use()
-    return [it[:3] for it in (first, second, third, fourth)] == [RIGHT[:3]] * 4 and first[3] == third[3] == ["sum"] * 3 \
-        and second[3] == fourth[3] == []
+    yield "the first after a time changed", copy.use(), made
+    yield "the second", copy.use(), RIGHT
 
 
 def failures(copy):
@@ -300,29 +351,33 @@ def failures(copy):
     copy.write(copy.source("left"), "wrong")
     status, errors, asked = copy.build()
     log = copy.top / "crates/left/out/build.log"
-    return status == 1 and str(log) in errors and log.read_text() == "not proved\n" and "run" not in asked
+    yield "the status", status, 1
+    yield "the log's path", errors if str(log) not in errors else None
+    yield "the log", log.read_text(), "not proved\n"
+    yield "the program isn't built", "run" in asked, False
 
 
 def little_memory(copy):
     """If memory is short, the libraries are proved one after the other, each by one process, so by statements."""
-    *_, asked = copy.build(FITS="1")
-    orders = [("low", "left", "right"), ("low", "right", "left")]
-    return asked in [[word for name in order for word in (f"start {name}", f"end {name} by statements")] + ["run"] for order in orders]
+    status, errors, asked = copy.build(FITS="1")
+    yield "the status", (status, errors if status else ""), (0, "")
+    yield "what is proved", in_any_order(asked, 1), build_proofs(1)
 
 
 def at_once(copy):
     """Of two builds at once, one builds and the other waits."""
     copy.notes.write_text("")
     both = [copy.start("build", ()), copy.start("build", ())]
-    ended = [(it.communicate(timeout=60), it.returncode)[1] for it in both]
-    return ended == [0, 0] and copy.notes.read_text().count("start low") == 1
+    ended = [(it.communicate(timeout=300)[1], it.returncode) for it in both]
+    yield "both end", [f"status {status}: {errors}" for errors, status in ended if status], []
+    yield "one builds", [it for it in copy.notes.read_text().split("\n") if it == "start low"], ["start low"]
 
 
 def other_toolchain(copy):
     """With a toolchain whose library can't be used, `rt` alone builds the program."""
     (copy.kit / "rtlib.py").unlink()
     status, _, asked = copy.build()
-    return (status, asked) == (0, ["run"])
+    yield "what is asked", (status, asked), (0, ["run"])
 
 
 def no_toolchain(copy):
@@ -332,45 +387,49 @@ def no_toolchain(copy):
         (copy.kit / name).symlink_to(shutil.which(name))
     (copy.kit / "python3").symlink_to(sys.executable)
     status, errors, _ = copy.build(PATH=str(copy.kit))
+    lost = [it for it in ("rt isn't on the path", "Rattle kit", "rt version") if it not in errors]
+    yield "./build", (status, lost and errors), (1, [])
     proofs = copy.ended(copy.start("test", ["--proofs"], PATH=str(copy.kit)))
-    return status == 1 and all(it in errors for it in ("rt isn't on the path", "Rattle kit", "rt version")) \
-        and proofs[:3] == (1, "test: the command rt isn't on the path, so nothing can be proved\n", "")
+    yield "./test --proofs", proofs[:3], (1, "test: the command rt isn't on the path, so nothing can be proved\n", "")
 
 
 def releasing(copy):
-    """./build --release takes the program that was built from the sources, builds the library, and describes both."""
+    """./build --release takes the program that was built from the sources, builds the library, and describes both. It has the library once."""
     copy.build()
     copy.write(copy.top / "crates/parsolve_c/out/libparsolve_c.a", "made by the test")
-    status, _, asked = copy.build("--release")
+    status, errors, asked = copy.build("--release")
+    yield "what is asked", (status, asked, errors if status else ""), (0, ["lib"], "")
     release, built = copy.top / "release", copy.top / "crates/parsolve/out/parsolve"
     about = (release / "ABOUT").read_text().splitlines()
     files = ("bin/parsolve", "lib/libparsolve.a", "lib/libparsolve.so")
     wanted = ["kit the test's kit", "program parsolve 1.2.3", *(f"sha256 {hashlib.sha256((release / it).read_bytes()).hexdigest()} "
                                                                 f"{it.rpartition('/')[2]}" for it in files)]
-    return (status, asked) == (0, ["lib"]) and (release / "bin/parsolve").read_bytes() == built.read_bytes() \
-        and sorted(it for it in about if not it.startswith("sources")) == sorted(wanted) \
-        and [it.split()[1] for it in about if it.startswith("sources")] == ["parsolve", "parsolve_c"] \
-        and "1.2.3" in (release / "include/parsolve.h").read_text()
+    yield "the program", (release / "bin/parsolve").read_bytes(), built.read_bytes()
+    yield "ABOUT", sorted(it for it in about if not it.startswith("sources")), sorted(wanted)
+    yield "ABOUT: sources", [it.split()[1] for it in about if it.startswith("sources")], ["parsolve", "parsolve_c"]
+    yield "the version", (release / "include/parsolve.h").read_text(), "1.2.3"
+    yield "libraries", [str(it.relative_to(release)) for it in release.rglob("*.so")], ["lib/libparsolve.so"]
 
 
 def released(copy):
     """If nothing is built, the released program runs if it was built from these sources, even without a toolchain, in a folder of another
     name; after a change it doesn't."""
     copy.release()
-    for folder in copy.top.glob("crates/*/out"):
-        shutil.rmtree(folder)
+    copy.clean()
     copy.top = copy.top.rename(copy.top.with_name("another copy"))
     (copy.top.parent / "link to parsolve").unlink(missing_ok=True)
-    runs = copy.use(PATH=os.environ["PATH"])
+    right = (0, "released " + RIGHT[1], "", [])
+    yield "without a toolchain", copy.use(PATH=os.environ["PATH"]), right
     copy.write(copy.source("low_tests"), "changed")
-    runs_still = copy.use()
+    yield "after a change of tests", copy.use(), right
     copy.write(copy.source("left"), "changed")
     why = "parsolve: there is no crates/parsolve/out/parsolve, and release/bin/parsolve wasn't built from these sources\n"
-    return runs == runs_still == (0, "released " + RIGHT[1], "", []) and refused(copy, why)
+    yield "after a change", copy.use(), refused(why)
 
 
 def installing(copy):
-    """./build --install installs program, library, tools and pages of release/, and asks the toolchain for nothing."""
+    """./build --install installs program, library, tools and pages of release/, and asks the toolchain for nothing. The Python package gets a
+    library of its own."""
     copy.release()
     shutil.rmtree(copy.top / "crates/parsolve/out", ignore_errors=True)
     folder = copy.top.parent / "a prefix"
@@ -380,15 +439,18 @@ def installing(copy):
         copy.write(copy.top / "tools" / name, "print('here')")
     for name in ("release/README.md", "LICENSE-APACHE", "LICENSE-MIT"):
         copy.write(copy.top / name, name)
-    status, _, asked = copy.build("--install", str(folder), PATH=os.environ["PATH"])
-    again = copy.build("--install", str(folder), PATH=os.environ["PATH"])[0]
+    for time_of in ("the first time", "again"):
+        status, errors, asked = copy.build("--install", str(folder), PATH=os.environ["PATH"])
+        yield time_of, (status, asked, errors if status else ""), (0, [], "")
     laid = {str(it.relative_to(folder)) for it in folder.rglob("*") if it.is_file()}
     wanted = {"bin/parsolve", "bin/parsolve-draw", "share/some/file", "share/parsolve/examples/some/file", "share/parsolve/tools/games.py",
-              "share/parsolve/README.md", "share/parsolve/LICENSE-MIT", "lib/libparsolve.so", "include/parsolve.h", "python/parsolve/__init__.py"}
-    return (status, again, asked) == (0, 0, []) and wanted <= laid and not {"share/parsolve/tools/fresh"} & laid
+              "share/parsolve/README.md", "share/parsolve/LICENSE-MIT", "lib/libparsolve.so", "include/parsolve.h", "python/parsolve/__init__.py",
+              "python/parsolve/libparsolve.so"}
+    yield "what isn't there", sorted(wanted - laid), []
+    yield "what is there", sorted({"share/parsolve/tools/fresh"} & laid), []
 
 
-MODULES = re.findall(r"\w+", re.search(r"^MODULES = \"(.*?)\"", (TOP / "test").read_text(), re.M | re.S)[1])
+MODULES = re.search(r'^MODULES = """(.*?)"""', (TOP / "test").read_text(), re.M | re.S)[1].split()
 
 
 def test_of_built(copy):
@@ -396,40 +458,61 @@ def test_of_built(copy):
     copy.build()
     status, lines = copy.test()
     program = copy.top / "crates/parsolve/out/parsolve"
-    return status == 0 and sorted(lines[:-1]) == sorted(f"{it} {program} None False" for it in MODULES) \
-        and lines[-1] == f"{len(MODULES)} passed, 0 failed"
+    yield "the tests", (status, sorted(lines[:-1])), (0, sorted(f"{it} {program} None False" for it in MODULES))
+    yield "the last line", lines[-1], f"{len(MODULES)} passed, 0 failed"
 
 
 def test_of_released(copy):
     """It tries the released program if nothing is built and that one was built from the sources."""
     copy.release()
     shutil.rmtree(copy.top / "crates/parsolve/out", ignore_errors=True)
-    return f"rows {copy.top / 'release/bin/parsolve'} None False" in copy.test()[1]
+    yield "rows", [it for it in copy.test()[1] if it.startswith("rows ")], [f"rows {copy.top / 'release/bin/parsolve'} None False"]
 
 
 def test_of_none(copy):
     """If no program was built from the sources, it says so, fails for that, and tries all the rest."""
     status, lines = copy.test()
     told = "test: there is no crates/parsolve/out/parsolve, and there is no release/bin/parsolve, so no program is tried"
-    return status == 1 and told in lines and "rows None None False" in lines and lines[-1] == f"{len(MODULES)} passed, 1 failed"
+    yield "the status", status, 1
+    yield "what it says", sorted({told, "rows None None False"} - {*lines}), []
+    yield "the last line", lines[-1], f"{len(MODULES)} passed, 1 failed"
 
 
 def test_of_one(copy):
     """With -k it tries only the tests whose names have the word; with --program another program."""
     copy.build()
-    found = copy.test("-k", "rows"), copy.test("-k", "rows", "--program", "/bin/true"), copy.test("-k", "no such test")
-    return found == ((0, [f"rows {copy.top / 'crates/parsolve/out/parsolve'} None False", "1 passed, 0 failed"]),
-                     (0, ["rows /bin/true None False", "1 passed, 0 failed"]), (1, ["test: no test has no such test in its name", "0 passed, 1 failed"]))
+    yield "-k", copy.test("-k", "rows"), (0, [f"rows {copy.top / 'crates/parsolve/out/parsolve'} None False", "1 passed, 0 failed"])
+    yield "--program", copy.test("-k", "rows", "--program", "/bin/true"), (0, ["rows /bin/true None False", "1 passed, 0 failed"])
+    yield "no such test", copy.test("-k", "no such test"), (1, ["test: no test has no such test in its name", "0 passed, 1 failed"])
+
+
+def test_that_fails(copy):
+    """It prints why a test fails: all of it, with the traceback of what isn't the test's own text. After a minute it says how far it is."""
+    copy.build()
+    copy.write(copy.top / "tests/rows.py", FAILING)
+    case_py = copy.top / "tests/case.py"
+    case_py.write_text(re.sub(r"^(START, PACE = .*, )60", r"\g<1>0.2", case_py.read_text(), flags=re.M))
+    copy.notes.write_text("")
+    status, output, errors, _ = copy.ended(copy.start("test", ["-k", "rows"]))
+    wanted = ["rows.Tests.test_assertion: Traceback", "assert 1 == 2, 'of two\\nlines'", "AssertionError: of two\nlines\n",
+              "rows.Tests.test_exception: Traceback", "raise ValueError('other')", "ValueError: other\n", "\n0 passed, 2 failed\n"]
+    yield "the output", (status, [it for it in wanted if it not in output], output if status != 1 else ""), (1, [], "")
+    told = re.match(r"test: 0 of 2 tests are done after 0 min; running: rows ", errors)
+    yield "how far it is", None if told else f"{errors!r}"
 
 
 CHECKS = (first_build, later_uses, changes, set_back, laid_over, other_lines, moved_sources, other_programs, fewer_tools, sums, failures,
-          little_memory, at_once, other_toolchain, no_toolchain, releasing, released, installing, test_of_built, test_of_released, test_of_none, test_of_one)
+          little_memory, at_once, other_toolchain, no_toolchain, releasing, released, installing, test_of_built, test_of_released, test_of_none, test_of_one,
+          test_that_fails)
 
 
-def why_wrong(check):
-    """Why a check fails, or None."""
-    with tempfile.TemporaryDirectory() as folder:
-        return None if check(Copy(pathlib.Path(folder).resolve())) else check.__doc__
+def in_a_copy(check):
+    """The check in a copy of its own, as a function that yields its parts."""
+    def run():
+        with tempfile.TemporaryDirectory() as folder:
+            yield from check(Copy(pathlib.Path(folder).resolve()))
+    run.__name__ = check.__name__
+    return run
 
 
-Tests = case.tests_by_name(__name__, ((it.__name__, lambda it=it: why_wrong(it)) for it in CHECKS))
+Tests = case.tests(__name__, *map(in_a_copy, CHECKS))

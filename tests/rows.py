@@ -30,7 +30,6 @@ import glob
 import os
 import re
 import subprocess
-import tomllib
 
 import case
 
@@ -113,8 +112,7 @@ def failure(program, row):
 def of_file(path):
     """The test of a file of rows: each on the program, and on that of the second compiler if there is one."""
     def run(program):
-        with open(path, "rb") as file:
-            found = tomllib.load(file)
+        found = case.rows_in(os.path.basename(path))
         for row in [*found.get("row", []), *(row for table in found.get("table", []) for row in rows_of(table))]:
             for each in filter(None, (program, case.BY_RATTLE)):
                 yield f"{row['name']} ({os.path.basename(each)})", failure(each, row)

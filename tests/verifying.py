@@ -8,7 +8,6 @@ import re
 import subprocess
 import sys
 import tempfile
-import tomllib
 
 import case
 import controllers
@@ -188,7 +187,7 @@ def kept_automata():
     """The automata of the examples and of the rows of `synth` that name the controller's propositions, each with its name. Those that the
     tools don't read are left out."""
     found = [(path.name, path.read_bytes()) for path in sorted((TOP / "examples").glob("*.hoa"))]
-    for row in tomllib.loads((TOP / "rows/synth.toml").read_text())["row"]:
+    for row in case.rows_in("synth.toml")["row"]:
         if row.get("args") == ["synth"] and row.get("status", 0) == 0:
             found.append((row["name"], rows.input_of(row)))
     return [(name, text) for name, text in found if b"\ncontrollable-AP:" in text and b"spot-state-player" not in text]
