@@ -1,17 +1,18 @@
 #!/usr/bin/env python3
 """Tries the wrong bodies of edits/: the prover must refuse each, since its function doesn't meet its contract.
 
-An edit, edits/CRATE/NAME.edit, has lines `file: PATH` in the crate, `old: TEXT`, which occurs once in that file, and `new: TEXT`. Edits
-of different functions of a crate are made in one copy of it. There the prover looks at the functions that were edited and at no other:
-each other function that has a proof gets a hole in place of it, so that it counts by its contract. An edit is judged by the lines
+An edit, edits/CRATE/NAME.edit, has lines `file: PATH` in the crate, `old: TEXT`, which occurs once in that file, and `new: TEXT`. If there are
+several, they are made one after the other. `function: NAME` names a function that the text isn't in. A line `always` has the edit tried each
+time. Edits of different functions of a crate are made in one copy of it. There the prover looks at the functions that were edited and at no
+other: each other function that has a proof gets a hole in place of it, so that it counts by its contract. An edit is judged by the lines
 about its own function alone, or about one of them if it changes several:
 - refused: a goal of the function isn't proved, or an answer of its proof doesn't fit its goal any more;
 - it waits for another copy if only functions that it calls are refused there;
 - anything else is a failure: the function is proved, its proof only misses names that the edit took away, the prover reaches a limit, or
   the edit can't be made, compiled or read.
-The libraries that the crate uses must be there, as ./build or the gate left them. `./test --proofs` tries one in four of each crate's
-edits, other ones with each commit, and all of a crate in which more than comments changed since the release before the last; with --all it
-tries all.
+The libraries that the crate uses must be there, as ./build or the gate left them. `./test --proofs` tries the edits with a line `always`, and
+all edits of a quarter of the crates, other ones with each commit, and of those in which more than comments changed since the release before
+the last; with --all it tries every edit. `./test` finds edits whose text isn't there, without a prover.
 """
 import argparse
 import os
@@ -30,7 +31,7 @@ import scripts
 from case import TOP
 
 EDITS = TOP / "edits"
-PARTS = 4  # each commit tries one of this many parts of a crate's edits
+PARTS = 4  # each commit tries the edits of one of this many parts of the crates
 ROOM = 3_000_000_000  # bytes of memory that a check can take
 FUNCTION = re.compile(r"(    )?(?:pub(?:\(\w+\))? )?(?:const )?(?:extern \"C\" )?fn (\w+)")
 OPEN = re.compile(r"note: (src/\S+?):(\d+):\d+: it is not proved that")
@@ -52,29 +53,39 @@ class BadEdit(Exception):
 # ---- what an edit is
 
 class Edit:
-    """A wrong body: the texts that it changes, and the functions that they are in."""
+    """A wrong body: the texts that it changes, the functions that they are in, and whether it is tried each time."""
 
     def __init__(self, path, folder):
-        self.name, self.pairs, functions, file, old = f"{path.parent.name}/{path.stem}", [], [], None, None
+        self.name, self.pairs, self.is_always, functions, file, old = f"{path.parent.name}/{path.stem}", [], False, [], None, None
         for line in path.read_text().splitlines():
             word, _, text = line.partition(":")
             text = text.removeprefix(" ")
-            if word == "function":
+            if line == "always":
+                self.is_always = True
+            elif word == "function":
                 functions.append(text)
             elif word == "file":
                 file = text
             elif word == "old":
                 old = text
-            elif word == "new":
+            elif word == "new" and file and old:
                 self.pairs.append((file, old, text))
-        for file, old, _ in self.pairs:
-            text = (folder / file).read_text()
-            if text.count(old) != 1:
-                raise BadEdit(f"{self.name}: its text is in {file} {text.count(old)} times, and not once")
-            functions.append(function_at(folder, file, text.count("\n", 0, text.index(old))))
+            else:
+                raise BadEdit(f"{self.name}: the line {line!r} isn't one of an edit")
+        functions += [function_at(folder, *place) for place in self.make(folder, {})]
         self.functions = list(dict.fromkeys(filter(None, functions)))
         if not self.functions:
             raise BadEdit(f"{self.name}: it changes no function")
+
+    def make(self, folder, texts):
+        """Makes the changes, one after the other, in `texts`, which has the files that are changed already; yields for each change its file, the
+        text before it and its line."""
+        for file, old, new in self.pairs:
+            text = texts.get(file) or (folder / file).read_text()
+            if text.count(old) != 1:
+                raise BadEdit(f"{self.name}: the text {old!r} is in {file} {text.count(old)} times, and not once")
+            yield file, text, text.count("\n", 0, text.index(old))
+            texts[file] = text.replace(old, new)
 
 
 def name_of(path):
@@ -116,10 +127,10 @@ def home_of(folder, kind, file):
     return module_of(file)
 
 
-def function_at(folder, file, line):
-    """The function that a line of a file is in, by the name that the prover gives it, or None. An attribute belongs to the function
-    below it: the prover names the attribute's line if something isn't proved where the function returns."""
-    lines = (folder / file).read_text().split("\n")
+def function_at(folder, file, text, line):
+    """The function that a line of a file with this text is in, by the name that the prover gives it, or None. An attribute belongs to the
+    function below it: the prover names the attribute's line if something isn't proved where the function returns."""
+    lines = text.split("\n")
     while lines[line].lstrip().startswith("#["):
         line += 1
     lines = lines[:line + 1]
@@ -147,9 +158,8 @@ class Copy:
         for part in ("src", "specs", "proofs"):
             if os.path.isdir(f"{crate.folder}/{part}"):
                 shutil.copytree(f"{crate.folder}/{part}", self.room / part)
-        for edit in edits:
-            for file, old, new in edit.pairs:
-                (self.room / file).write_text((self.room / file).read_text().replace(old, new))
+        for file, text in made(edits, self.room).items():
+            (self.room / file).write_text(text)
         self.dig()
 
     def dig(self):
@@ -198,7 +208,8 @@ class Copy:
 
     def is_open(self, function, said):
         """Whether a goal of the function isn't proved."""
-        return any(function_at(self.room, file, int(line) - 1) == function for file, line in OPEN.findall(said))
+        places = ((file, (self.room / file).read_text(), int(line) - 1) for file, line in OPEN.findall(said))
+        return any(function_at(self.room, *it) == function for it in places)
 
     def broken(self, function, verdict, said):
         """What is wrong in the proof of the function, by the prover's errors: those in its own folder, and those in what it uses that is
@@ -214,11 +225,29 @@ class Copy:
 
 # ---- all of it
 
-def share_out(edits):
-    """The edits as lists of those that go into one copy: no two of a function."""
+def made(edits, folder):
+    """The texts of the files that these edits change, after all of them."""
+    texts = {}
+    for edit in edits:
+        list(edit.make(folder, texts))
+    return texts
+
+
+def go_together(edits, folder):
+    """Whether these edits can be made in one copy: they are of different functions, and none changes the text of another."""
+    functions = [it for edit in edits for it in edit.functions]
+    try:
+        made(edits, folder)
+    except BadEdit:
+        return False
+    return len(functions) == len(set(functions))
+
+
+def share_out(edits, folder):
+    """The edits as lists of those that go into one copy."""
     copies = []
     for edit in edits:
-        copy = next((it for it in copies if not any(set(edit.functions) & set(other.functions) for other in it)), None)
+        copy = next((it for it in copies if go_together([*it, edit], folder)), None)
         if copy is None:
             copies.append(copy := [])
         copy.append(edit)
@@ -265,34 +294,44 @@ def changed():
     return {path.split("/")[1] for path in paths}
 
 
-def part():
-    """(how many parts, which part) of a crate's edits if not all are tried."""
-    return PARTS, int((git("rev-list", "--count", "HEAD") or ["0"])[0]) % PARTS
+def turn():
+    """The crates whose turn it is: other ones with each commit."""
+    return set(sorted(os.listdir(EDITS))[int((git("rev-list", "--count", "HEAD") or ["0"])[0]) % PARTS::PARTS])
 
 
-def chosen(edits, is_whole):
-    """Those of a crate's edits that are tried."""
-    count, first = part()
-    return edits if is_whole else edits[first::count]
+def chosen(names, is_whole):
+    """(crates all of whose edits are tried, crates of which some are), if these are named: crates, or edits as CRATE/NAME."""
+    every = set(os.listdir(EDITS))
+    whole = {it for it in names if "/" not in it} if names else every if is_whole else every & (turn() | changed())
+    return whole, {it.partition("/")[0] for it in names} | whole if names else every
+
+
+def copies_of(crates, whole, names, faults):
+    """(crate, edits) of each copy, the largest ones first; what is wrong with an edit is added to the faults."""
+    copies, known = [], {it.name for it in crates}
+    for crate in crates:
+        edits = read(crate, faults)
+        known |= {it.name for it in edits}
+        edits = [it for it in edits if crate.name in whole or it.name in names or (it.is_always and not names)]
+        copies += [(crate, it) for it in share_out(edits, pathlib.Path(crate.folder))]
+    faults += [f"there is no {it}" for it in sorted({*names, *whole} - known)]
+    return sorted(copies, key=lambda it: len(it[1]), reverse=True)
 
 
 def run(names=(), is_whole=False):
-    """Tries all edits of these crates; if none is named, those of every crate, all of them or a part. Answers how many passed and failed."""
+    """Tries all edits of these crates, and these edits, CRATE/NAME; if none is named, every edit or a part of them. Answers how many passed and
+    failed."""
     rtlib, start, spent = scripts.script("build").toolchain(is_still=True), time.monotonic(), processor_seconds()
     rtlib.guarded()  # this ends the prover when this process ends; it can't start once there are threads
-    whole = set(names) or (set(os.listdir(EDITS)) if is_whole else changed())
-    wanted = set(names or os.listdir(EDITS))
-    if wanted - whole:
-        print(f"edits: part {part()[1] + 1} of {PARTS} of each crate's, and all of {', '.join(sorted(whole & wanted)) or 'none'}", flush=True)
-    crates = [it for it in rtlib.crates_below(str(TOP)) if it.name in wanted]
-    lacking = {below.name for it in crates for below in it.below() if not below.is_built()}
+    whole, wanted = chosen(names, is_whole)
+    if not names and not is_whole:
+        print(f"edits: all of {', '.join(sorted(whole))}; of the other crates those that are tried each time", flush=True)
+    faults = []
+    copies = copies_of([it for it in rtlib.crates_below(str(TOP)) if it.name in wanted], whole, names, faults)
+    lacking = {below.name for crate, _ in copies for below in crate.below() if not below.is_built()}
     if lacking:
         print(f"edits: not built: {', '.join(sorted(lacking))}; run ./build")
         return 0, 1
-    faults, copies = [f"there is no crate {it}" for it in sorted(wanted - {it.name for it in crates})], []
-    for crate in crates:
-        copies += [(crate, it) for it in share_out(chosen(read(crate, faults), crate.name in whole))]
-    copies.sort(key=lambda it: len(it[1]), reverse=True)
     processors = len(os.sched_getaffinity(0))
     most = max([n for n in range(1, processors + 1) if rtlib.fits(*[ROOM] * n)], default=1)
     with ThreadPoolExecutor(most) as pool:
@@ -300,7 +339,7 @@ def run(names=(), is_whole=False):
     faults += [f"{edit.name}: {what}" for edit, what in results if what != REFUSED]
     for fault in faults:
         print(f"edits: {fault}")
-    print(f"edits: {(time.monotonic() - start) / 60:.0f} minutes, {(processor_seconds() - spent) / 60:.1f} processor minutes")
+    print(f"edits: {len(copies)} copies, {(time.monotonic() - start) / 60:.0f} minutes, {(processor_seconds() - spent) / 60:.1f} processor minutes")
     passed, failed = sum(what == REFUSED for _, what in results), len(faults)
     print(f"edits: {passed} passed, {failed} failed")
     return passed, failed
@@ -313,9 +352,9 @@ def processor_seconds():
 
 def options():
     words = argparse.ArgumentParser(description=__doc__, formatter_class=argparse.RawDescriptionHelpFormatter)
-    words.add_argument("crates", metavar="CRATE", nargs="*", help="try all edits of this crate; if none is named, all of every crate")
+    words.add_argument("names", metavar="CRATE[/NAME]", nargs="*", help="try this edit, or all of this crate; if none is named, all of every crate")
     return words.parse_args()
 
 
 if __name__ == "__main__":
-    sys.exit(1 if run(options().crates, is_whole=True)[1] else 0)
+    sys.exit(1 if run(options().names, is_whole=True)[1] else 0)

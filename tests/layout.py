@@ -9,7 +9,8 @@ and `Lemmas` list. So
   whose contracts name a mirror all the same; the numbers of its chains are right;
 - each name of docs/definitions.md is defined in the file named beside it;
 - each call and law that the README and the pages of docs/ name exists, and so does each clause, definition and edit of
-  docs/promises.md, whose first table names the edits that the gate tries;
+  docs/promises.md, whose first table names the edits that every gate tries;
+- each edit of edits/ can be made in the sources;
 - no two crates have a public type of one name;
 - five crates of the kit are used where the product is meant to use them, and the README says that they are trusted.
 
@@ -22,6 +23,7 @@ import textwrap
 
 import case
 import chains
+import edits as wrong_bodies
 from case import TOP
 
 CRATES, README, MAP, DEFINITIONS = TOP / "crates", TOP / "README.md", TOP / "docs/map.md", TOP / "docs/definitions.md"
@@ -209,17 +211,28 @@ def promises():
 
 
 def edits():
-    """The same for each edit that docs/promises.md names, as `pg_map/join_keeps_the_later`, and each that the gate tries: the page's first table
-    names these alone."""
-    names = re.compile(r"`((?:pg_|parsolve_)\w+)/(\w+)`")
+    """The same for each edit that docs/promises.md names, as `pg_map/join_keeps_the_later`, and each that is tried each time: the page's first
+    table names these alone."""
+    names = re.compile(r"`((?:pg_|parsolve_)\w+/\w+)`")
     text = PROMISES.read_text()
-    first = set(names.findall(re.search(r"\*\*What the gate tries\*\*\n\n((?:\|.*\n)*)", text)[1]))
-    kept = {(path.parts[-3], path.stem) for path in CRATES.glob("*/must-fail/*.edit")}
-    for crate, name in sorted(first | kept):
-        yield name, None if (crate, name) in first & kept else f"isn't both in {crate}/must-fail and in the first table of docs/promises.md"
-    for crate, name in sorted(set(names.findall(text)) - first):
-        is_there = (TOP / "edits" / crate / f"{name}.edit").is_file()
-        yield name, None if is_there else f"isn't in edits/{crate}, though docs/promises.md says so"
+    first = set(names.findall(re.search(r"\*\*What every gate tries\*\*\n\n((?:\|.*\n)*)", text)[1]))
+    files = {f"{path.parent.name}/{path.stem}": path.read_text().splitlines() for path in wrong_bodies.EDITS.glob("*/*.edit")}
+    for name in sorted(first | {name for name, lines in files.items() if "always" in lines}):
+        is_both = name in first and "always" in files.get(name, [])
+        yield name, None if is_both else "isn't both in the first table of docs/promises.md and in edits/ with a line `always`"
+    for name in sorted(set(names.findall(text)) - first):
+        yield name, None if name in files else "isn't in edits/, though docs/promises.md says so"
+
+
+def stale_edits():
+    """The same for each edit: it can be made in the sources, and changes a function."""
+    for path in sorted(wrong_bodies.EDITS.glob("*/*")):
+        name, why = str(path.relative_to(TOP)), None
+        try:
+            wrong_bodies.Edit(path, CRATES / path.parent.name)
+        except (wrong_bodies.BadEdit, OSError) as fault:
+            why = str(fault)
+        yield name, why
 
 
 def types():
@@ -285,7 +298,7 @@ def write_definitions():
     DEFINITIONS.write_text("\n".join(text))
 
 
-Tests = case.tests(__name__, imports, rows_of_map, rows_of_chains, exceptions, entries, calls, promises, edits, types, kit)
+Tests = case.tests(__name__, imports, rows_of_map, rows_of_chains, exceptions, entries, calls, promises, edits, stale_edits, types, kit)
 
 
 if __name__ == "__main__":
