@@ -3,6 +3,7 @@ archive is unpacked into an empty home."""
 import pathlib
 import re
 import subprocess
+import sys
 import tempfile
 
 import case
@@ -29,7 +30,8 @@ TYPED = [
 
 def session(top, home):
     """(what was typed, why it printed something else or None)."""
-    environment = {"HOME": str(home), "PATH": "/usr/local/bin:/usr/bin:/bin", "PYTHONDONTWRITEBYTECODE": "1"}
+    path = f"{pathlib.Path(sys.executable).parent}:/usr/local/bin:/usr/bin:/bin"
+    environment = {"HOME": str(home), "PATH": path, "PYTHONDONTWRITEBYTECODE": "1"}
     for typed, wanted in TYPED:
         ran = subprocess.run(["sh", "-c", typed], cwd=top, env=environment, capture_output=True, text=True, timeout=120)
         yield typed, None if (ran.stdout, ran.stderr) == (wanted, "") else f"printed {ran.stdout!r} {ran.stderr!r}"
