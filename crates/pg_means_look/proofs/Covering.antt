@@ -50,14 +50,14 @@ same_choice forms c asks puts e h =
 
 -- ---- choices that ask for no more
 
-self_among : (fs : List NormalForm) → Each (IsAmong fs) fs
+pub self_among : (fs : List NormalForm) → Each (IsAmong fs) fs
 self_among [] = tt
 self_among (f ∷ fs) = (inl refl, each_map (IsAmong fs) (IsAmong (f ∷ fs)) fs (λ g i. inr i) (self_among fs))
 
 pub no_more_self : (c : Choice) → IsNoMore c c
 no_more_self c = (self_among c.asks, self_among c.puts)
 
-among_trans : (fs gs hs : List NormalForm) → Each (IsAmong gs) fs → Each (IsAmong hs) gs → Each (IsAmong hs) fs
+pub among_trans : (fs gs hs : List NormalForm) → Each (IsAmong gs) fs → Each (IsAmong hs) gs → Each (IsAmong hs) fs
 among_trans fs gs hs h k = each_map (IsAmong gs) (IsAmong hs) fs (λ f i. each_among (IsAmong hs) gs f k i) h
 
 pub no_more_trans : (c d e : Choice) → IsNoMore c d → IsNoMore d e → IsNoMore c e

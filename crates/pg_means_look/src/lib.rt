@@ -19,3 +19,4 @@ pub use lasso::is_shown;
 pub use look::{Finder, shows_empty};
 pub use places::are_below;
 pub use pool::{Origin, Pool, Pooled};
+pub use values::holds_on;

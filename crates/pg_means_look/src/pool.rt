@@ -15,23 +15,15 @@ ghost use Rattle.pg_means_look.specs.Mirrors.Pools.{list_at, made, IsWithin, IsP
 use crate::automaton::holds;
 use crate::choice::{Choice, all_of, alone, asked, free, product_of, put_off};
 use crate::values::node_at;
+use indexmap::IndexSet;
 use pg_ltl::NormalNode;
 use std::alloc::{AllocError, Global};
-
-/// The number of slots at first.
-const FIRST_SLOTS: usize = 1 << 10;
 
 /// Once there are more lists than this, all are dropped before the next letter.
 const MOST_LISTS: usize = 1 << 14;
 
-/// How many slots are searched for a list.
-const MOST_LOOKS: usize = 32;
-
-/// Marks an empty slot.
-const NONE: u32 = u32::MAX;
-
 /// What a list of choices is made of: other lists, by their numbers, and formulas, by their places.
-#[derive(Clone, Copy, Debug, PartialEq, Eq)]
+#[derive(Clone, Copy, Debug, PartialEq, Eq, Hash)]
 pub enum Origin {
     /// The single choice that asks for nothing.
     Free,
@@ -55,11 +47,11 @@ pub struct Pooled {
 }
 
 /// Lists of choices, by their numbers.
-#[derive(Debug, Drop)]
+#[derive(Drop)]
 pub struct Pool {
     pub lists: Vec<Pooled>,
-    /// A hash table that finds the numbers of lists by their origins. Its answers are checked.
-    slots: Vec<u32>,
+    /// The origins of the lists, in the same order. What is found there is checked.
+    origins: IndexSet<Origin>,
 }
 
 /// Returns the list with this number; past the last list, an empty one.
@@ -69,28 +61,6 @@ pub(crate) fn list_at(lists: &[Pooled], number: usize) -> &[Choice]
     match lists.get(number) {
         Some(found) => found.list.as_slice(),
         None => &[],
-    }
-}
-
-/// Mixes a kind and two numbers into one number.
-fn mixed(kind: u64, a: usize, b: usize) -> usize {
-    let mut sum = kind.wrapping_mul(0x9E37_79B9_7F4A_7C15);
-    sum = (sum ^ a as u64).wrapping_mul(0x9E37_79B9_7F4A_7C15);
-    sum ^= sum >> 32;
-    sum = (sum ^ b as u64).wrapping_mul(0x9E37_79B9_7F4A_7C15);
-    sum ^= sum >> 32;
-    sum as usize
-}
-
-/// Returns a number that depends on every part of the origin.
-fn sum_of(origin: Origin) -> usize {
-    match origin {
-        Origin::Free => 0,
-        Origin::Nothing => 1,
-        Origin::Asked(place) => mixed(2, place, 0),
-        Origin::PutOff(place) => mixed(3, place, 0),
-        Origin::Product(a, b) => mixed(4, a, b),
-        Origin::Union(a, b) => mixed(5, a, b),
     }
 }
 
@@ -121,7 +91,7 @@ impl Pool {
     {
         Pool {
             lists: Vec::new(alloc),
-            slots: Vec::new(alloc),
+            origins: IndexSet::new(alloc),
         }
     }
 
@@ -151,24 +121,6 @@ impl Pool {
         is_same(self.lists[number].origin, origin)
     }
 
-    /// Returns the slot of the list with the origin if there is one, or else the first free slot.
-    fn slot(&self, origin: Origin) -> usize {
-        let count = self.slots.len();
-        if count == 0 {
-            return 0;
-        }
-        let mut slot = sum_of(origin) % count;
-        for _ in 0..MOST_LOOKS {
-            match self.slots.get(slot) {
-                Some(number) if *number != NONE && !self.is_of(*number as usize, origin) => {
-                    slot = slot.wrapping_add(1) % count;
-                }
-                _ => break,
-            }
-        }
-        slot
-    }
-
     /// Builds the list of an origin.
     fn list_of(&self, alloc: Global, origin: Origin) -> Result<Vec<Choice>, AllocError>
         ensures { IfOk result (λ list. (forms : List NormalForm)
@@ -188,40 +140,14 @@ impl Pool {
         }
     }
 
-    /// Writes the number into the slot.
-    fn put(&mut self, slot: usize, number: usize)
-        ensures { self.new.lists ≡ self.old.lists }
-    {
-        if slot < self.slots.len() {
-            self.slots[slot] = number.min(NONE as usize) as u32;
-        }
-    }
-
-    /// Makes room for four times as many lists.
-    fn grow(&mut self, alloc: Global) -> Result<(), AllocError>
-        ensures { self.new.lists ≡ self.old.lists }
-    {
-        let room = self.slots.len().saturating_mul(4).max(FIRST_SLOTS);
-        self.slots = vec![in alloc; NONE; room]?;
-        for number in 0..self.lists.len() {
-            let slot = self.slot(self.lists[number].origin);
-            self.put(slot, number);
-        }
-        Ok(())
-    }
-
     /// Adds a list and returns its number.
-    fn add(&mut self, alloc: Global, list: Pooled) -> Result<usize, AllocError>
+    fn add(&mut self, list: Pooled) -> Result<usize, AllocError>
         ensures { IfOk result (λ number. (number ≡ length self.old.lists.items)
             × (self.new.lists.items ≡ self.old.lists.items ++ list ∷ [])) }
     {
-        if self.lists.len() >= self.slots.len() / 2 {
-            self.grow(alloc)?;
-        }
         let number = self.lists.len();
-        let slot = self.slot(list.origin);
+        let _ = self.origins.insert_full(list.origin)?;
         self.lists.push(list)?;
-        self.put(slot, number);
         Ok(number)
     }
 
@@ -231,13 +157,13 @@ impl Pool {
             → IsWithin (length self.old.lists.items) origin
             → Has forms self.old.lists.items self.new.lists.items (made forms self.old.lists.items origin) number) }
     {
-        let slot = self.slot(origin);
-        let number = self.slots.get(slot).copied().unwrap_or(NONE) as usize;
+        let found = self.origins.get_index_of(&origin);
+        let number = found.unwrap_or(self.lists.len());
         if self.is_of(number, origin) {
             return Ok(number);
         }
         let list = self.list_of(alloc, origin)?;
-        self.add(alloc, Pooled { origin, list })
+        self.add(Pooled { origin, list })
     }
 
     /// Whether the list with this number is empty.

@@ -238,7 +238,7 @@ fn values_of_node(
 }
 
 /// Whether the formula at the place `root` of a list holds on a lasso. Only `true` is proved, but `false` is right too.
-pub(crate) fn holds_on(
+pub fn holds_on(
     alloc: Global,
     nodes: &[NormalNode],
     root: usize,

@@ -1,6 +1,7 @@
 //! Claims that are asked for, level by level. The level of a claim is the priority of its row's last component above 0.
 
-use pg_search_rows::{Side, ZEROS, at, count, put};
+use pg_search_components::{at, count, put};
+use pg_search_rows::{Side, ZEROS};
 use std::alloc::{AllocError, Global};
 use std::mem;
 

@@ -1,6 +1,7 @@
 //! Claims that lead to earlier claims alone.
 
-use pg_search_rows::{NONE, RowClaim, Side, ZEROS, at, is_marked, put};
+use pg_search_components::{NONE, at, is_marked, put};
+use pg_search_rows::{RowClaim, Side, ZEROS};
 use std::alloc::{AllocError, Global};
 
 #[derive(Drop)]

@@ -5,7 +5,8 @@
 
 use crate::asked::Asked;
 use pg_arena::Player;
-use pg_search_rows::{NONE, RowClaim, at, count, is_marked, item, put};
+use pg_search_components::{NONE, at, count, is_marked, item, put};
+use pg_search_rows::RowClaim;
 use pg_search_winners::{Graph, Winners, find_winners};
 use std::alloc::{AllocError, Global};
 use std::mem;

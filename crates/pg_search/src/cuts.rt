@@ -1,6 +1,7 @@
 //! The rows of all vertices without the components below a level that rises.
 
-use pg_search_rows::{NONE, Side, item, put};
+use pg_search_components::{NONE, item, put};
+use pg_search_rows::Side;
 use std::alloc::{AllocError, Global};
 
 /// The row of a vertex without the components below some level, and the priority of the last component that is left.

@@ -1,6 +1,7 @@
 //! The greatest way out of each run of places.
 
-use pg_search_rows::{NONE, Rows, ZEROS, count, item, put};
+use pg_search_components::{NONE, count, item, put};
+use pg_search_rows::{Rows, ZEROS};
 use std::alloc::{AllocError, Global};
 
 /// An edge that leads out of a run of places, and the row that it leads to.

@@ -12,7 +12,8 @@ use crate::attracting::attract;
 use crate::board::{Board, FIRST, LOST, WON};
 use crate::cuts::Cuts;
 use crate::leveling::set_by_levels;
-use pg_search_rows::{NONE, RowClaim, Side, ZEROS, at, count, is_marked, put};
+use pg_search_components::{NONE, at, count, is_marked, put};
+use pg_search_rows::{RowClaim, Side, ZEROS};
 use std::alloc::{AllocError, Global};
 
 /// Stands for all levels, in the game of own rows.

@@ -1,7 +1,7 @@
 //! The ladder of a side: its rows in order, so that each is the least step of the one before it at a priority.
 
-use pg_search_components::{Edges, TargetRows as Children};
-use pg_search_rows::{NONE, Rows, Side, TOP, ZEROS, at, count, is_marked, put};
+use pg_search_components::{Edges, NONE, TargetRows as Children, at, count, is_marked, put};
+use pg_search_rows::{Rows, Side, TOP, ZEROS};
 use std::alloc::{AllocError, Global};
 
 #[derive(Drop)]

@@ -9,7 +9,8 @@
 use crate::asked::{Asked, Levels};
 use crate::board::Board;
 use crate::shunning::{FEW, Pause};
-use pg_search_rows::{NONE, Side, ZEROS, at, count, is_marked, item, put};
+use pg_search_components::{NONE, at, count, is_marked, item, put};
+use pg_search_rows::{Side, ZEROS};
 use std::alloc::{AllocError, Global};
 use std::mem;
 

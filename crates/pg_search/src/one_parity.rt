@@ -3,7 +3,7 @@
 
 use pg_arena::{Game, Vertex};
 use pg_map_claims::{Claim, Claims, Proposal, Proposals, Span};
-use pg_search_rows::{count, put};
+use pg_search_components::{count, put};
 use std::alloc::{AllocError, Global};
 
 /// Returns the parity of all priorities, if they share one.

@@ -6,7 +6,8 @@ use crate::region::WonRegion;
 use crate::search::find;
 use pg_arena::{Game, Player, Vertex};
 use pg_map_claims::{Claim, Claims, Proposal, Proposals, Span};
-use pg_search_rows::{NONE, RowClaim, Side, TOP, ZEROS, at, count, put};
+use pg_search_components::{NONE, at, count, put};
+use pg_search_rows::{RowClaim, Side, TOP, ZEROS};
 use pg_search_winners::{Graph, find_winners};
 use std::alloc::{AllocError, Global};
 

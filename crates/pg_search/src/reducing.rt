@@ -7,8 +7,8 @@
 
 use crate::proposal::most_looks;
 use pg_arena::Player;
-use pg_search_components::{Edges, TargetRows};
-use pg_search_rows::{NONE, Side, at, count, put};
+use pg_search_components::{Edges, NONE, TargetRows, at, count, put};
+use pg_search_rows::Side;
 use pg_search_winners::Graph;
 use std::alloc::{AllocError, Global};
 

@@ -4,7 +4,7 @@
 //! among them; one of them stands for all.
 
 use pg_arena::Player;
-use pg_search_rows::{NONE, at, count, put};
+use pg_search_components::{NONE, at, count, put};
 use pg_search_winners::{Graph, Winners};
 use std::alloc::{AllocError, Global};
 

@@ -7,7 +7,8 @@ use crate::exact::set_exactly;
 use crate::justifying::{finish, lower_to_least};
 use crate::reducing::Reduced;
 use crate::ways::Ways;
-use pg_search_rows::{NONE, RowClaim, Side};
+use pg_search_components::NONE;
+use pg_search_rows::{RowClaim, Side};
 use std::alloc::{AllocError, Global};
 
 /// Finds the least rows of the vertices that the winner wins with these choices. Returns claims of them, or `None` if winners aren't found.

@@ -8,7 +8,8 @@
 use crate::asked::{Asked, Levels};
 use crate::board::{FIRST, LOST, WON};
 use crate::leveling::{Leveling, Standing};
-use pg_search_rows::{Side, at, count};
+use pg_search_components::{at, count};
+use pg_search_rows::Side;
 use std::alloc::{AllocError, Global};
 
 /// At most one in this many vertices may be of the levels.

@@ -1,7 +1,8 @@
 //! Ways from the heads of a part to its greatest way out, and the claims along them.
 
 use crate::greatest::ExitEdge;
-use pg_search_rows::{NONE, RowClaim, Side, ZEROS, at, item, put};
+use pg_search_components::{NONE, at, item, put};
+use pg_search_rows::{RowClaim, Side, ZEROS};
 use std::alloc::{AllocError, Global};
 
 /// A component in an order: the place where it begins, how many heads come first, and the place before which it ends.

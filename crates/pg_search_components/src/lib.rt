@@ -5,10 +5,12 @@
 mod arranging;
 mod chains;
 mod components;
+mod numbered_lists;
 mod numbers;
 mod target_rows;
 
 pub use arranging::{Arranged, Placed, arrange};
 pub use components::{Components, Edges};
-pub use numbers::{NONE, at, between, count, from, put};
+pub use numbered_lists::NumberedLists;
+pub use numbers::{NONE, at, between, count, from, has_bit, is_marked, item, power, put};
 pub use target_rows::TargetRows;

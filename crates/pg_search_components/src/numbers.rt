@@ -1,23 +1,35 @@
-//! Lists of numbers that can be read and written at any place.
+//! Numbers, and lists that can be read and written at any place.
 
 /// Stands for no number.
 pub const NONE: u32 = u32::MAX;
 
-/// Returns the number at a place, or `NONE` past the end.
+/// Returns the item at a place, or `other` past the end.
 #[inline(always)]
-pub fn at(numbers: &[u32], place: u32) -> u32 {
-    if (place as usize) < numbers.len() {
-        numbers[place as usize]
+pub fn item<T: Copy + Drop>(items: &[T], place: u32, other: T) -> T {
+    if (place as usize) < items.len() {
+        items[place as usize]
     } else {
-        NONE
+        other
     }
 }
 
-/// Sets the number at a place, if it is within the list.
+/// Returns the number at a place, or `NONE` past the end.
 #[inline(always)]
-pub fn put(numbers: &mut [u32], place: u32, number: u32) {
-    if (place as usize) < numbers.len() {
-        numbers[place as usize] = number;
+pub fn at(numbers: &[u32], place: u32) -> u32 {
+    item(numbers, place, NONE)
+}
+
+/// Whether a place is marked. Past the end none is.
+#[inline(always)]
+pub fn is_marked(marks: &[bool], place: u32) -> bool {
+    item(marks, place, false)
+}
+
+/// Sets the item at a place, if it is within the list.
+#[inline(always)]
+pub fn put<T: Copy + Drop>(items: &mut [T], place: u32, it: T) {
+    if (place as usize) < items.len() {
+        items[place as usize] = it;
     }
 }
 
@@ -27,12 +39,12 @@ pub fn count(length: usize) -> u32 {
     length.min(NONE as usize) as u32
 }
 
-/// Returns the numbers from the place `from` on before the place `to`, as far as they are there.
+/// Returns the items from the place `from` on before the place `to`, as far as they are there.
 #[inline(always)]
-pub fn between(numbers: &[u32], from: u32, to: u32) -> &[u32] {
-    let to = (to as usize).min(numbers.len());
+pub fn between<T>(items: &[T], from: u32, to: u32) -> &[T] {
+    let to = (to as usize).min(items.len());
     let from = (from as usize).min(to);
-    &numbers[from..to]
+    &items[from..to]
 }
 
 /// Returns the numbers from a place on.
@@ -40,4 +52,16 @@ pub fn between(numbers: &[u32], from: u32, to: u32) -> &[u32] {
 pub fn from(numbers: &[u32], place: usize) -> &[u32] {
     let place = place.min(numbers.len());
     &numbers[place..]
+}
+
+/// Returns two to the power of `n`, which is below 32.
+#[inline(always)]
+pub fn power(n: u32) -> u32 {
+    1u32.wrapping_shl(n)
+}
+
+/// Whether bit `n` of a number is set.
+#[inline(always)]
+pub fn has_bit(number: u32, n: u32) -> bool {
+    number.wrapping_shr(n) & 1 == 1
 }

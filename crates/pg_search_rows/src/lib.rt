@@ -5,13 +5,11 @@
 
 mod lifting;
 mod lowering;
-mod numbers;
 mod row_claim;
 mod rows;
 mod side;
 mod sweeps;
 
-pub use numbers::{NONE, at, count, is_marked, item, put};
 pub use row_claim::RowClaim;
 pub use rows::{RowNode, Rows, TOP, ZEROS};
 pub use side::{Side, State};

@@ -1,8 +1,8 @@
 //! Lowering of a closed map where successors allow less.
 
-use crate::numbers::NONE;
 use crate::rows::ZEROS;
 use crate::side::Side;
+use pg_search_components::NONE;
 use std::alloc::{AllocError, Global};
 
 impl Side<'_> {

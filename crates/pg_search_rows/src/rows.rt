@@ -3,7 +3,7 @@
 //! A node is the row of its parent with one more component above 0, at a lesser priority. Equal rows are one node, so two rows are
 //! compared by walking to where the ways to them part. The zeros are the root and cost nothing.
 
-use crate::numbers::{at, count, put};
+use pg_search_components::{at, count, put};
 use std::alloc::{AllocError, Global};
 
 /// Stands for top in place of a row.

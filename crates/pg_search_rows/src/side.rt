@@ -1,7 +1,7 @@
 //! What one player wins, as seen by that player, for whom the least map is sought: this player is called the winner.
 
-use crate::numbers::{NONE, at, count};
 use crate::rows::{Rows, ZEROS};
+use pg_search_components::{NONE, at, count};
 use pg_search_winners::Graph;
 use std::alloc::{AllocError, Global};
 

@@ -1,7 +1,7 @@
 //! The map of a winning strategy, by sweeps through the vertices, which are numbered so that most edges lead to lesser numbers.
 
-use crate::numbers::{NONE, count};
 use crate::side::Side;
+use pg_search_components::{NONE, count};
 use std::alloc::{AllocError, Global};
 
 /// How often sweeps may look at each vertex and edge.

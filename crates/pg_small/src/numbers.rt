@@ -1,20 +1,10 @@
-//! Numbers in lists, bits, and budgets.
+//! Numbers in lists, widths, and budgets.
 
-pub use pg_search_rows::{NONE, at, count, is_marked, item, put};
+pub use pg_search_components::{NONE, at, count, has_bit, is_marked, item, power, put};
 use std::alloc::AllocError;
 
 /// A result, unless memory runs out.
 pub type Allocated<T> = Result<T, AllocError>;
-
-/// Returns two to the power of `n`, which is below 32.
-pub fn power(n: u32) -> u32 {
-    1u32.wrapping_shl(n)
-}
-
-/// Whether bit `n` of a number is set.
-pub fn has_bit(number: u32, n: u32) -> bool {
-    number.wrapping_shr(n) & 1 == 1
-}
 
 /// Returns how many bits tell `many` numbers apart.
 pub fn width(many: u32) -> u32 {

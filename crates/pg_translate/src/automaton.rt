@@ -1,8 +1,8 @@
 //! Complete deterministic automata, by classes of letters.
 
 use crate::fault::Attempt;
-use crate::lists::NumberedLists;
 use crate::numbers::{NONE, at, between, count, gathered, item, power, put};
+use pg_search_components::NumberedLists;
 use std::alloc::Global;
 
 /// Where an edge leads, and what it is marked with: a priority, or a set of colours as bits.

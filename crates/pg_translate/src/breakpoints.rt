@@ -4,10 +4,10 @@ use crate::automaton::{MarkedAutomaton, MarkedEdge};
 use crate::bdd::{ALWAYS, NEVER};
 use crate::fault::{Attempt, TranslateFault};
 use crate::leaf::Leaf;
-use crate::lists::NumberedLists;
 use crate::numbers::{MOST_EDGES, NONE, power, spread};
 use crate::pool::{FALSE, FormulaPool, Operator, TRUE};
 use crate::progress::Progress;
+use pg_search_components::NumberedLists;
 
 /// A formula in Pi 2, whose states are explored.
 #[derive(Drop)]
@@ -16,7 +16,7 @@ struct Breakpoints {
     /// For `G F f`, the diagram of `F f`, the only formula that is waited for, again and again; else `NONE`.
     again: u32,
     /// What is asked and what is waited for in each state.
-    states: NumberedLists,
+    states: NumberedLists<u32>,
 }
 
 /// Returns the formula that is waited for again and again: `F f` of `G F f`.

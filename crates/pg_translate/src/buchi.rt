@@ -2,12 +2,11 @@
 
 use crate::components::ComponentRanks;
 use crate::fault::{Attempt, TranslateFault};
-use crate::lists::NumberedLists;
 use crate::numbers::{MOST_EDGES, between, count, is_marked, item, power, put, spread};
 use crate::pool::FormulaPool;
 use crate::tableau::{ChoiceBits, Tableau};
 use indexmap::IndexSet;
-use pg_search_components::TargetRows;
+use pg_search_components::{NumberedLists, TargetRows};
 use std::alloc::Global;
 
 /// Where an edge leads, and whether it accepts.

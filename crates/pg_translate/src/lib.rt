@@ -10,7 +10,6 @@ mod components;
 mod cycles;
 mod fault;
 mod leaf;
-mod lists;
 mod minimising;
 mod numbers;
 mod parity;

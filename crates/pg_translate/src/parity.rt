@@ -5,12 +5,11 @@ use crate::bdd::{ALWAYS, NEVER};
 use crate::components::ComponentRanks;
 use crate::cycles::{cycle, holds_on};
 use crate::fault::{Attempt, TranslateFault};
-use crate::lists::NumberedLists;
 use crate::numbers::{MOST_EDGES, NONE, NumberMap, at, item, put};
 use crate::product::ColouredProduct;
 use crate::skeleton::Skeleton;
 use crate::zielonka::{Climb, Condition, Tree};
-use pg_search_components::TargetRows;
+use pg_search_components::{NumberedLists, TargetRows};
 use std::alloc::Global;
 
 /// The product, with the tree of each of its components that has a cycle.
@@ -20,7 +19,7 @@ struct Remembering {
     ranks: ComponentRanks,
     trees: Vec<Option<Tree>>,
     /// States with a memory; `entered` has how each is entered.
-    entries: NumberedLists,
+    entries: NumberedLists<u32>,
     entered: Vec<Climb>,
 }
 

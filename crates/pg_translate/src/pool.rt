@@ -1,9 +1,9 @@
 //! Formulas in negation normal form, each stored once.
 
 use crate::fault::Attempt;
-use crate::lists::NumberedLists;
 use crate::numbers::{NONE, NumberMap, count, item, power};
 use indexmap::IndexSet;
+use pg_search_components::NumberedLists;
 use std::alloc::Global;
 
 /// The formulas false and true.
@@ -89,7 +89,7 @@ impl Followed {
 pub struct FormulaPool {
     pub alloc: Global,
     nodes: IndexSet<PoolNode>,
-    lists: NumberedLists,
+    lists: NumberedLists<u32>,
     facts: Vec<Facts>,
     negations: NumberMap,
 }

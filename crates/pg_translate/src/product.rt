@@ -3,18 +3,18 @@
 use crate::automaton::{Classes, MarkedEdge};
 use crate::bdd::NEVER;
 use crate::fault::{Attempt, TranslateFault};
-use crate::lists::NumberedLists;
 use crate::numbers::{
     MOST_EDGES, NONE, NumberMap, between, count, gathered, item, power, put, spread,
 };
 use crate::skeleton::Skeleton;
+use pg_search_components::NumberedLists;
 use std::alloc::Global;
 
 /// The product. Its edges are marked with the colours that are met.
 #[derive(Drop)]
 pub struct ColouredProduct {
     /// For each state, the diagram of what is asked and the state of each leaf, or `NONE` for a leaf that no longer matters.
-    pub states: NumberedLists,
+    pub states: NumberedLists<u32>,
     pub classes: Classes,
     /// The edge of each class, state by state.
     edges: Vec<MarkedEdge>,
@@ -23,7 +23,7 @@ pub struct ColouredProduct {
 /// The states that were met, and the edges of those that were looked at, letter by letter over the propositions of each state's mask.
 #[derive(Drop)]
 struct Exploring {
-    states: NumberedLists,
+    states: NumberedLists<u32>,
     masks: Vec<u32>,
     edges: Vec<MarkedEdge>,
     /// Where the edges of each state end.

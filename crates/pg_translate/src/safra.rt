@@ -5,9 +5,9 @@ use crate::automaton::{MarkedAutomaton, MarkedEdge};
 use crate::buchi::{Buchi, buchi_of};
 use crate::fault::{Attempt, TranslateFault};
 use crate::leaf::Leaf;
-use crate::lists::NumberedLists;
 use crate::numbers::{MOST_EDGES, NONE, count, has_bit, is_marked, item, put, spend};
 use crate::pool::FormulaPool;
+use pg_search_components::NumberedLists;
 use std::alloc::Global;
 
 /// The most steps from node to node that are made.

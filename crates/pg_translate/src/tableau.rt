@@ -1,9 +1,9 @@
 //! The tableau of a formula: sets of formulas. A word satisfies a set if choices lead it from set to set and no Until is put off for ever.
 
 use crate::fault::{Attempt, TranslateFault};
-use crate::lists::NumberedLists;
 use crate::numbers::{NONE, NumberMap, at, count};
 use crate::pool::{FALSE, Followed, FormulaPool, Operator, TRUE};
+use pg_search_components::NumberedLists;
 use std::alloc::Global;
 
 /// The formulas that are asked from the next step on, and the Untils that are put off, as bits.
@@ -66,7 +66,7 @@ pub struct Tableau<'a> {
     formulas: Vec<u32>,
     places: NumberMap,
     /// The places with letters whose choices are known; `choices` has these.
-    known: NumberedLists,
+    known: NumberedLists<u32>,
     choices: Vec<Vec<ChoiceBits>>,
 }
 

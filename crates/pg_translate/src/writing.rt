@@ -2,8 +2,8 @@
 
 use crate::automaton::{MarkedAutomaton, MarkedEdge};
 use crate::fault::Attempt;
-use crate::lists::NumberedLists;
 use crate::numbers::{NONE, between, count, has_bit, item, power};
+use pg_search_components::NumberedLists;
 use std::alloc::Global;
 
 /// Letters with the same edge: the propositions that are named, and which of these hold, as bits.
@@ -132,7 +132,7 @@ fn cubes(
     alloc: Global,
     row: &[MarkedEdge],
     propositions: u32,
-    edges: &mut NumberedLists,
+    edges: &mut NumberedLists<u32>,
 ) -> Attempt<Vec<(u32, Cube)>> {
     let mut found = Vec::new(alloc);
     let whole = CubePart {
