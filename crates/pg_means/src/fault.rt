@@ -10,8 +10,9 @@ pub enum MeansFault {
     /// An allocation failed.
     #[error("out of memory")]
     OutOfMemory,
-    /// The automaton over all propositions, or its product with the formula, has more than 16,777,216 edges, the product has more than
-    /// 16,777,216 sets of formulas times letters, or the formula has more than 4,194,304 parts times letters.
+    /// The automaton over all propositions has more than 16,777,216 edges. Or its product with the formula has more than 16,777,216 edges,
+    /// if edges between the same nodes that differ only in their letters count once, or more than 268,435,456 if each counts. Or there are
+    /// more than 33,554,432 sets of formulas times letters, or formulas that a set can hold times letters.
     #[error("product of automaton and formula too large")]
     TooLarge,
     /// What was found proves neither verdict. No input is known for which this happens.

@@ -4,7 +4,6 @@
 
 mod graph;
 mod implied;
-mod lists;
 mod product;
 mod proposal;
 mod size;

@@ -8,6 +8,7 @@ pub use crate::way::Lasso;
 use crate::way::{common_places, lasso_of};
 use pg_ltl::NormalNode;
 use pg_means_look::{Certificate, Finder, Level, Node, ParityAutomaton};
+use pg_search_components::{count, item};
 use std::alloc::{AllocError, AllocFailed, Global};
 
 /// Why nothing is proposed.
@@ -15,7 +16,8 @@ use std::alloc::{AllocError, AllocFailed, Global};
 pub enum SearchFault {
     /// An allocation failed.
     OutOfMemory,
-    /// There are more than 16,777,216 edges or sets times letters, or more than 4,194,304 formulas times letters.
+    /// There are more than 16,777,216 arcs, 268,435,456 edges of which arcs are made, or 33,554,432 sets, or formulas that sets can hold,
+    /// times letters.
     TooLarge,
 }
 
@@ -87,7 +89,7 @@ fn inner_of(
             if rank >= inner.len() || !is_inside(&found.ranks, v, arc, priority) {
                 continue;
             }
-            let puts = product.puts.list(arc.puts as usize);
+            let puts = product.puts.list(arc.puts);
             let here = &mut inner[rank];
             here.met = here.met || arc.priority == priority;
             let common = match &here.common {
@@ -155,10 +157,10 @@ fn met_priorities(alloc: Global, product: &Product) -> Result<Vec<bool>, AllocEr
 fn nodes_of(alloc: Global, product: &Product) -> Result<Vec<Node>, AllocError> {
     let mut nodes = Vec::with_capacity(alloc, product.len())?;
     for v in 0..product.len() {
-        let pair = product.nodes.list(v);
+        let pair = product.nodes.list(count(v));
         nodes.push(Node {
-            state: pair.first().copied().unwrap_or(0).min(u32::MAX as usize) as u32,
-            set: pair.last().copied().unwrap_or(0),
+            state: item(pair, 0, 0),
+            set: item(pair, 1, 0) as usize,
         })?;
     }
     Ok(nodes)
@@ -166,7 +168,7 @@ fn nodes_of(alloc: Global, product: &Product) -> Result<Vec<Node>, AllocError> {
 
 /// Returns the sets of the product.
 fn sets_of(alloc: Global, product: &Product) -> Result<Vec<Vec<usize>>, AllocError> {
-    let mut sets = Vec::with_capacity(alloc, product.sets.len())?;
+    let mut sets = Vec::with_capacity(alloc, product.sets.len() as usize)?;
     for number in 0..product.sets.len() {
         sets.push(Vec::from_slice(alloc, product.sets.list(number))?)?;
     }

@@ -1,85 +1,136 @@
-//! The choices of each formula at each letter, and the sets to which the choices of a set lead.
+//! The choices of each formula that a set can hold, at each letter, and the sets to which the choices of a set lead.
 
 ghost use Rattle.pg_ltl.specs.Mirrors.Nodes.{AreNormalNodes};
 
-use crate::lists::Lists;
-use crate::product::{MOST_EDGES, Product};
+use crate::product::Product;
 use crate::proposal::SearchFault;
 use pg_ltl::NormalNode;
 use pg_means_look::{ParityAutomaton, Pool, are_below};
+use pg_search_components::{NONE, NumberedLists, count, item, put};
 use std::alloc::{AllocError, Global};
 
-/// The most formulas times letters that are looked at.
-const MOST_TABLES: usize = 1 << 22;
+/// The most formulas that sets can hold, and the most sets, each times letters.
+const MOST_PLACES: usize = 1 << 25;
 
 #[derive(Drop)]
 pub struct Tables {
-    /// The number of formulas.
-    formulas: usize,
     letters: usize,
     pool: Pool,
-    /// For each letter, the numbers of the choices of each formula.
+    /// For each formula, its column in a row, or `NONE` if no set can hold it.
+    columns: Vec<u32>,
+    /// The number of columns.
+    width: usize,
+    /// For each letter, a row: the numbers of the choices of each formula that a set can hold.
     rows: Vec<usize>,
+    /// The columns of the set that was looked up last.
+    looked_up: Vec<usize>,
     /// For each set and letter, the number of its moves, counted from 1, or 0 if it isn't known yet.
     known: Vec<u32>,
     /// For each list of choices, the number of its moves, counted from 1, or 0 if it isn't known yet.
     led: Vec<u32>,
     /// Lists of moves. Each move has the number of the set to which it leads, and that of the set of Untils that it puts off.
-    moves: Lists,
+    moves: NumberedLists<u32>,
 }
 
 /// Returns the number at a place, where numbers are counted from 1 and 0 means none.
-fn known_at(numbers: &[u32], place: usize) -> Option<usize> {
+fn known_at(numbers: &[u32], place: usize) -> Option<u32> {
     match numbers.get(place) {
-        Some(number) if *number > 0 => Some(*number as usize - 1),
+        Some(number) if *number > 0 => Some(*number - 1),
         _ => None,
     }
 }
 
 /// Stores a number at a place, counted from 1.
-fn learn(numbers: &mut Vec<u32>, place: usize, number: usize) -> Result<(), AllocError> {
+fn learn(numbers: &mut Vec<u32>, place: usize, number: u32) -> Result<(), AllocError> {
     for _ in numbers.len()..place.saturating_add(1) {
         numbers.push(0)?;
     }
-    if place < numbers.len() && number < u32::MAX as usize {
-        numbers[place] = number as u32 + 1;
+    if place < numbers.len() && number < u32::MAX {
+        numbers[place] = number + 1;
     }
     Ok(())
 }
 
+/// Returns the column of each formula that a set can hold: the whole formula, what is asked for at the next step, and each Until and
+/// Release.
+fn columns_of(alloc: Global, nodes: &[NormalNode], root: usize) -> Result<Vec<u32>, AllocError> {
+    let mut is_asked = vec![in alloc; false; nodes.len()]?;
+    put(&mut is_asked, count(root), true);
+    for (place, node) in nodes.iter().enumerate() {
+        match *node {
+            NormalNode::Next(a) => put(&mut is_asked, count(a), true),
+            NormalNode::Until(..) | NormalNode::Release(..) => {
+                put(&mut is_asked, count(place), true);
+            }
+            _ => {}
+        }
+    }
+    let mut columns = Vec::with_capacity(alloc, nodes.len())?;
+    let mut width = 0;
+    for is in &is_asked {
+        columns.push(if *is { width } else { NONE })?;
+        width = u32::wrapping_add(width, u32::from(*is));
+    }
+    Ok(columns)
+}
+
+/// Returns the rows of all letters.
+fn rows_of(
+    alloc: Global,
+    pool: &mut Pool,
+    automaton: &ParityAutomaton,
+    nodes: &[NormalNode],
+    columns: &[u32],
+) -> Result<Vec<usize>, AllocError>
+    requires { AreNormalNodes nodes.now }
+{
+    let mut rows = Vec::new(alloc);
+    for letter in 0..automaton.letters {
+        let row = pool.rows(alloc, nodes, &automaton.truths, letter)?;
+        for (column, number) in columns.iter().zip(row.iter()) {
+            if *column != NONE {
+                rows.push(*number)?;
+            }
+        }
+    }
+    Ok(rows)
+}
+
 impl Tables {
-    /// Looks up the choices of each formula at each letter. Fails with `TooLarge` if there are more than 4,194,304 formulas times
-    /// letters, and with `OutOfMemory` if an allocation fails.
+    /// Looks up the choices at each letter of each formula that a set can hold. Fails with `TooLarge` if there are more than 33,554,432
+    /// of these formulas times letters, and with `OutOfMemory` if an allocation fails.
     pub fn new(
         alloc: Global,
         automaton: &ParityAutomaton,
         nodes: &[NormalNode],
+        root: usize,
     ) -> Result<Tables, SearchFault>
         requires { AreNormalNodes nodes.now }
     {
         let letters = automaton.letters as usize;
-        if nodes.len().saturating_mul(letters) > MOST_TABLES {
+        let columns = columns_of(alloc, nodes, root)?;
+        let width = columns.iter().filter(|column| **column != NONE).count();
+        if width.saturating_mul(letters) > MOST_PLACES {
             return Err(SearchFault::TooLarge);
         }
         let mut pool = Pool::new(alloc);
-        let mut rows = Vec::new(alloc);
-        for letter in 0..automaton.letters {
-            rows.extend_from_slice(&pool.rows(alloc, nodes, &automaton.truths, letter)?)?;
-        }
+        let rows = rows_of(alloc, &mut pool, automaton, nodes, &columns)?;
         Ok(Tables {
-            formulas: nodes.len(),
             letters,
             pool,
+            columns,
+            width,
             rows,
+            looked_up: Vec::new(alloc),
             known: Vec::new(alloc),
             led: Vec::new(alloc),
-            moves: Lists::new(alloc),
+            moves: NumberedLists::new(alloc),
         })
     }
 
     /// Returns the moves with this number: for each, the number of the set to which it leads, and that of the set of Untils that it puts
     /// off.
-    pub fn moves(&self, number: usize) -> &[usize] {
+    pub fn moves(&self, number: u32) -> &[u32] {
         self.moves.list(number)
     }
 
@@ -88,14 +139,16 @@ impl Tables {
         &mut self,
         alloc: Global,
         product: &mut Product,
-        set: usize,
+        set: u32,
         letter: usize,
-    ) -> Result<usize, SearchFault> {
-        let place = set.saturating_mul(self.letters).saturating_add(letter);
+    ) -> Result<u32, SearchFault> {
+        let place = (set as usize)
+            .saturating_mul(self.letters)
+            .saturating_add(letter);
         if let Some(number) = known_at(&self.known, place) {
             return Ok(number);
         }
-        if place > MOST_EDGES {
+        if place > MOST_PLACES {
             return Err(SearchFault::TooLarge);
         }
         let list = self.choices(alloc, product.sets.list(set), letter)?;
@@ -111,13 +164,18 @@ impl Tables {
         set: &[usize],
         letter: usize,
     ) -> Result<usize, SearchFault> {
-        let begin = letter.saturating_mul(self.formulas).min(self.rows.len());
-        let end = begin.saturating_add(self.formulas).min(self.rows.len());
+        let begin = letter.saturating_mul(self.width).min(self.rows.len());
+        let end = begin.saturating_add(self.width).min(self.rows.len());
         let rows = &self.rows[begin..end];
-        if !are_below(set, rows.len()) {
+        self.looked_up.clear();
+        for place in set {
+            self.looked_up
+                .push(item(&self.columns, count(*place), NONE) as usize)?;
+        }
+        if !are_below(&self.looked_up, rows.len()) {
             return Err(SearchFault::TooLarge);
         }
-        Ok(self.pool.set(alloc, set, rows)?)
+        Ok(self.pool.set(alloc, &self.looked_up, rows)?)
     }
 
     /// Returns the number of the moves to which the choices of a list lead.
@@ -126,7 +184,7 @@ impl Tables {
         alloc: Global,
         product: &mut Product,
         list: usize,
-    ) -> Result<usize, SearchFault> {
+    ) -> Result<u32, SearchFault> {
         if let Some(number) = known_at(&self.led, list) {
             return Ok(number);
         }

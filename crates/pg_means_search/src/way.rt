@@ -35,7 +35,7 @@ fn is_wanted(product: &Product, arc: &Arc, wanted: Wanted) -> bool {
     match wanted {
         Wanted::To(v) => arc.to == v,
         Wanted::Priority(priority) => arc.priority == priority,
-        Wanted::Without(until) => !product.puts.list(arc.puts as usize).contains(&until),
+        Wanted::Without(until) => !product.puts.list(arc.puts).contains(&until),
     }
 }
 
@@ -122,7 +122,7 @@ impl Round {
     /// Follows a way.
     fn go(&mut self, alloc: Global, product: &Product, way: &[Arc]) -> Result<(), AllocError> {
         for arc in way {
-            let puts = product.puts.list(arc.puts as usize);
+            let puts = product.puts.list(arc.puts);
             let common = match &self.common {
                 Some(common) => common_places(alloc, common, puts)?,
                 None => Vec::from_slice(alloc, puts)?,
