@@ -214,7 +214,8 @@ def small_circuits(program):
 
 
 def forms(program):
-    """Circuits in the binary form, with gates in another order, and after the line `REALIZABLE` are read as well."""
+    """Circuits in the binary form, with gates in another order, after the line `REALIZABLE`, with carriage returns, and with the ends that other
+    tools write are read as well."""
     for name in ("arbiter", "lift", "traffic-light", "delay", "request-grant"):
         automaton = (TOP / f"examples/{name}.hoa").read_bytes()
         answer = subprocess.run([program, "synth"], input=automaton, capture_output=True, timeout=60).stdout
@@ -222,8 +223,11 @@ def forms(program):
         inputs, latches, outputs, gates = map(int, lines[0].split()[2:])
         first = 1 + inputs + latches + outputs
         turned = b"\n".join([*lines[:first], *reversed(lines[first:first + gates]), *lines[first + gates:]])
-        for form, circuit in (("as it is printed", answer), ("binary", binary_of(read_circuit(answer))), ("gates turned round", turned),
-                              ("with a comment", answer + b"c\nanything\n")):
+        binary = binary_of(read_circuit(answer))
+        for form, circuit in (("as it is printed", answer), ("binary", binary), ("gates turned round", turned),
+                              ("with a comment", answer + b"c\nanything\n"), ("with a comment in the line c", binary + b"cn" + name.encode()),
+                              ("a line c that doesn't end", answer + b"c"), ("empty lines at the end", answer + b"\n\r\n\n"),
+                              ("carriage returns", answer.replace(b"\n", b"\r\n"))):
             yield f"{name}, {form}", asked(program, automaton, circuit), (0, b"ACCEPTED\n", b"")
 
 
@@ -234,6 +238,8 @@ def names(program):
     yield "names in another order", asked(program, two, crossed), (0, b"ACCEPTED\n", b"")
     yield "the order of places", asked(program, two, crossed, "--by-place")[1].split(b"\n")[0], b"STUCK"
     yield "no names, by place", asked(program, AUTOMATON, b"aag 1 1 0 1 0\n2\n2\n", "--by-place"), (0, b"ACCEPTED\n", b"")
+    named = asked(program, AUTOMATON.replace(b'"g"', b'"g\r"'), WIRE.replace(b"g\n", b"g\r\r\n"))
+    yield "a name that ends in a carriage return", named, (0, b"ACCEPTED\n", b"")
     yield "inputs in the circuit's order", asked(program, two, b"aag 2 2 0 1 0\n2\n4\n5\ni0 s\ni1 r\no0 g\n")[1].split(b"\n")[0], b"STUCK"
 
 
@@ -345,6 +351,8 @@ REFUSED = {
     "an input without a name": (b"aag 2 2 0 1 0\n2\n4\n2\ni0 r\no0 g\n", "input 1 has no symbol"),
     "a name that isn't UTF-8": (b"aag 2 2 0 1 0\n2\n4\n2\ni0 r\ni1 gr\xf6\\e\no0 g\n", "input 1 is named gr\\xf6\\\\e, but the automaton has no such input"),
     "a name in UTF-8": (b"aag 2 2 0 1 0\n2\n4\n2\ni0 r\ni1 \xc3\xb6\xe2\x82\xac\no0 g\n", "input 1 is named \u00f6\u20ac, but the automaton has no such input"),
+    "a name that turns the direction of writing": (b"aag 2 2 0 1 0\n2\n4\n2\ni0 r\ni1 a\xe2\x80\xaeb\no0 g\n",
+                                                   "input 1 is named a\\xe2\\x80\\xaeb, but the automaton has no such input"),
     "a circuit with nothing in it": (b"aag 0 0 0 0 0\n", "the circuit has no input named r"),
     "a name twice": (b"aag 2 2 0 1 0\n2\n4\n2\ni0 r\ni1 r\no0 g\n", "two inputs are named r"),
     "a latch that starts at 1": (b"aag 2 1 1 1 0\n2\n4 2 1\n4\ni0 r\no0 g\n", "latch 0 does not start at 0"),
@@ -353,6 +361,12 @@ REFUSED = {
     "a literal that is negated": (b"aag 1 1 0 1 0\n3\n2\ni0 r\no0 g\n", "literal 3 of the circuit defines no variable"),
     "a bad state": (b"aag 1 1 0 1 0 1\n2\n2\n2\ni0 r\no0 g\n", "the circuit has bad-state properties, which are not read"),
     "no circuit": (b"module\n", "syntax error at byte 0"),
+    "a variable too few": (b"aag 1 1 0 1 1\n2\n4\n4 2 2\ni0 r\no0 g\n", "the header's M is less than I + L + A"),
+    "a variable too many in the binary form": (b"aig 2 1 0 1 0\n2\ni0 r\no0 g\n", "the header's M is not I + L + A"),
+    "a carriage return alone": (b"aag 1 1 0 1 0\r2\n2\ni0 r\no0 g\n", "syntax error at byte 13"),
+    "two carriage returns": (b"aag 1 1 0 1 0\n2\r\r\n2\ni0 r\no0 g\n", "syntax error at byte 15"),
+    "a carriage return at the end": (b"aag 1 1 0 1 0\n2\n2\ni0 r\no0 g\n\r", "syntax error at byte 28"),
+    "a symbol after an empty line": (b"aag 1 1 0 1 0\n2\n2\n\ni0 r\no0 g\n", "syntax error at byte 18"),
 }
 
 

@@ -4,17 +4,17 @@ use Rattle.pg_aiger_reader.proofs.Common.{length, Option, Some, None, refl, sym,
 use Rattle.pg_aiger_reader.proofs.Common.{eqb-true, le-ltb, le-leb, leb-true, ltb-false, chosen, some, some_is}
 use Rattle.pg_aiger_reader.proofs.Common.{none, none_is_some, line_at, header_of, header_at, AllByRecursion, and_parts, if◌then◌else◌}
 use Rattle.pg_aiger_reader.proofs.Lines.{line_found, line_only, line_few}
-use Rattle.pg_aiger_reader.proofs.Common.{cases_Bool, eqb-false, lt-ltb, ltb-true, ne_eqb, header_fault, fault_at}
+use Rattle.pg_aiger_reader.proofs.Common.{cases_Bool, eqb-false, lt-ltb, ltb-true, ne_eqb, leb-false, lt-leb, header_fault, fault_at}
 use Rattle.pg_aiger_reader.specs.declared.fault.Section.{Section}
 use Rattle.pg_aiger_reader.specs.declared.fault.Section.TheVariants.{BadStates, Constraints, Justice, Fairness}
 use Rattle.pg_aiger_reader.specs.declared.fault.ReaderFault.{ReaderFault}
-use Rattle.pg_aiger_reader.specs.declared.fault.ReaderFault.TheVariants.{OutOfMemory, Syntax, NumberTooLarge, TooLarge, LeftOut, Reset}
-use Rattle.pg_aiger_reader.specs.Faults.{IsLeftOut, IsHeaderFault}
+use Rattle.pg_aiger_reader.specs.declared.fault.ReaderFault.TheVariants.{OutOfMemory, Syntax, NumberTooLarge, TooLarge, TooFewVariables, OtherVariables, LeftOut, Reset}
+use Rattle.pg_aiger_reader.specs.Faults.{IsLeftOut, IsWithin, IsHeaderFault}
 use Rattle.pg_aiger_reader.specs.declared.header.Header.{Header}
 use Rattle.pg_aiger_reader.specs.declared.item.AigerFormat.{AigerFormat}
 use Rattle.pg_aiger_reader.specs.declared.item.AigerFormat.TheVariants.{Ascii, Binary}
 use Rattle.pg_aiger_reader.specs.Texts.{BeginsLine, form_text, AreVariables}
-use Rattle.pg_aiger_reader.specs.Mirrors.Headers.{form_at, left_out, fits, head, within, over}
+use Rattle.pg_aiger_reader.specs.Mirrors.Headers.{form_at, left_out, fits, head, within, misfit, over}
 
 abbrev pub AreZeros : List ℕ → Type 0
 AreZeros ns = AllByRecursion (λ n. n ≡ 0) ns
@@ -278,31 +278,54 @@ either_true : (a b : Bool) → a || b ≡ true → (a ≡ true) ⊎ (b ≡ true)
 either_true true b e = inl refl
 either_true false b e = inr e
 
-over_found : (m o : ℕ) (ns : List ℕ) (out : Option Section) (fault : ReaderFault) → length ns ≤ 4 → left_out ns ≡ out → over m o out ≡ Some fault
-    → IsHeaderFault m o ns fault
-over_found m o ns (Some s) fault few same e =
-    subst (IsHeaderFault m o ns) (some_is (LeftOut s) fault e) (left_out_found ns s same)
-over_found m o ns None fault few same e =
-    elim (chosen (ltb 16777216 m || ltb 16777216 o) (some TooLarge) none (some fault) e) [
+misfit_found : (form : AigerFormat) (m i l o a : ℕ) (ns : List ℕ) → fits form m i l a ≡ false → IsWithin m o ns
+    → IsHeaderFault form m (i + l + a) o ns (misfit form)
+misfit_found Ascii m i l o a ns e within = (within, refl, leb-false _ _ e)
+misfit_found Binary m i l o a ns e within = (within, refl, eqb-false _ _ e)
+
+over_found : (form : AigerFormat) (m i l o a : ℕ) (ns : List ℕ) (out : Option Section) (fault : ReaderFault) → length ns ≤ 4 → left_out ns ≡ out
+    → over form m i l o a out ≡ Some fault → IsHeaderFault form m (i + l + a) o ns fault
+over_found form m i l o a ns (Some s) fault few same e =
+    subst (IsHeaderFault form m (i + l + a) o ns) (some_is (LeftOut s) fault e) (left_out_found ns s same)
+over_found form m i l o a ns None fault few same e =
+    elim (chosen (ltb 16777216 m || ltb 16777216 o) (some TooLarge) _ (some fault) e) [
       | inl w ↦
           let large : (16777216 < m) ⊎ (16777216 < o) =
           elim (either_true (ltb 16777216 m) (ltb 16777216 o) w.0) [ inl h ↦ inl (ltb-true _ _ h) | inr h ↦ inr (ltb-true _ _ h) ] in
-          subst (IsHeaderFault m o ns) (some_is TooLarge fault w.1) (zeros_found ns few same, large)
-      | inr w ↦ absurd (none_is_some fault w.1)
+          subst (IsHeaderFault form m (i + l + a) o ns) (some_is TooLarge fault w.1) (zeros_found ns few same, large)
+      | inr v ↦ elim (chosen (fits form m i l a) none (some (misfit form)) (some fault) v.1) [
+        | inl w ↦ absurd (none_is_some fault w.1)
+        | inr w ↦
+            let both = either_false (ltb 16777216 m) (ltb 16777216 o) v.0 in
+            let within : IsWithin m o ns = (zeros_found ns few same, ltb-false _ _ both.0, ltb-false _ _ both.1) in
+            subst (IsHeaderFault form m (i + l + a) o ns) (some_is (misfit form) fault w.1) (misfit_found form m i l o a ns w.0 within)
+      ]
     ]
 
-over_large : (m o : ℕ) → (16777216 < m) ⊎ (16777216 < o) → over m o None ≡ Some TooLarge
-over_large m o (inl lt) = rw (lt-ltb _ _ lt) refl
-over_large m o (inr lt) =
+over_large : (form : AigerFormat) (m i l o a : ℕ) → (16777216 < m) ⊎ (16777216 < o) → over form m i l o a None ≡ Some TooLarge
+over_large form m i l o a (inl lt) = rw (lt-ltb _ _ lt) refl
+over_large form m i l o a (inr lt) =
     elim (cases_Bool (ltb 16777216 m)) [ inl h ↦ rw h refl | inr h ↦ rw (h, lt-ltb _ _ lt) refl ]
 
-over_only : (m o : ℕ) (ns : List ℕ) (fault : ReaderFault) → IsHeaderFault m o ns fault → over m o (left_out ns) ≡ Some fault
-over_only m o ns (LeftOut s) is = rw (left_out_only s ns is) refl
-over_only m o ns TooLarge is = rw (zeros_only ns is.0) (over_large m o is.1)
-over_only m o ns OutOfMemory is = absurd is
-over_only m o ns (Syntax n) is = absurd is
-over_only m o ns (NumberTooLarge n) is = absurd is
-over_only m o ns (Reset n) is = absurd is
+over_within : (form : AigerFormat) (m i l o a : ℕ) (ns : List ℕ) → IsWithin m o ns → fits form m i l a ≡ false
+    → over form m i l o a (left_out ns) ≡ Some (misfit form)
+over_within form m i l o a ns within e =
+    let low : ltb 16777216 m ≡ false = le-ltb _ _ within.1 in
+    let low' : ltb 16777216 o ≡ false = le-ltb _ _ within.2 in
+    rw (zeros_only ns within.0, low, low', e) refl
+
+over_only : (form : AigerFormat) (m i l o a : ℕ) (ns : List ℕ) (fault : ReaderFault) → IsHeaderFault form m (i + l + a) o ns fault
+    → over form m i l o a (left_out ns) ≡ Some fault
+over_only form m i l o a ns (LeftOut s) is = rw (left_out_only s ns is) refl
+over_only form m i l o a ns TooLarge is = rw (zeros_only ns is.0) (over_large form m i l o a is.1)
+over_only Ascii m i l o a ns TooFewVariables (within, same, less) = over_within Ascii m i l o a ns within (lt-leb _ _ less)
+over_only Binary m i l o a ns TooFewVariables (within, same, less) = absurd cc
+over_only Ascii m i l o a ns OtherVariables (within, same, other) = absurd cc
+over_only Binary m i l o a ns OtherVariables (within, same, other) = over_within Binary m i l o a ns within (ne_eqb _ _ other)
+over_only form m i l o a ns OutOfMemory is = absurd is
+over_only form m i l o a ns (Syntax n) is = absurd is
+over_only form m i l o a ns (NumberTooLarge n) is = absurd is
+over_only form m i l o a ns (Reset n) is = absurd is
 
 -- a header that is refused for this
 pub record IsRefusedHeader (bytes : List ℕ) (fault : ReaderFault) : Type 0 where
@@ -318,14 +341,14 @@ pub record IsRefusedHeader (bytes : List ℕ) (fault : ReaderFault) : Type 0 whe
   pub begins : bytes ≡ form_text form ++ text
   pub line : BeginsLine text (m ∷ i ∷ l ∷ o ∷ a ∷ counts) rest
   pub few : length counts ≤ 4
-  pub wrong : IsHeaderFault m o counts fault
+  pub wrong : IsHeaderFault form m (i + l + a) o counts fault
 
 pub fault_found : (bytes : List ℕ) (fault : ReaderFault) → fault_at bytes ≡ Some fault → IsRefusedHeader bytes fault
 unfolding fault_at header_fault
 fault_found bytes fault e = of_form (form_at bytes) refl e
   where
     of_line : (form : AigerFormat) (text : List ℕ) → bytes ≡ form_text form ++ text → (read : Option (List ℕ × List ℕ)) → line_at 9 text ≡ read
-        → (read >>= λ y. header_fault y.0) ≡ Some fault → IsRefusedHeader bytes fault
+        → (read >>= λ y. header_fault form y.0) ≡ Some fault → IsRefusedHeader bytes fault
     of_line form text begins None same e = absurd (none_is_some fault e)
     of_line form text begins (Some ([], rest)) same e = absurd (none_is_some fault e)
     of_line form text begins (Some (m ∷ [], rest)) same e = absurd (none_is_some fault e)
@@ -348,10 +371,10 @@ fault_found bytes fault e = of_form (form_at bytes) refl e
           begins = begins;
           line = (line_found 9 text (m ∷ i ∷ l ∷ o ∷ a ∷ more, rest) same).1;
           few = short;
-          wrong = over_found m o more (left_out more) fault short refl e;
+          wrong = over_found form m i l o a more (left_out more) fault short refl e;
         }
 
-    of_form : (read : Option (AigerFormat × List ℕ)) → form_at bytes ≡ read → (read >>= λ y. line_at 9 y.1 >>= λ z. header_fault z.0) ≡ Some fault
+    of_form : (read : Option (AigerFormat × List ℕ)) → form_at bytes ≡ read → (read >>= λ y. line_at 9 y.1 >>= λ z. header_fault y.0 z.0) ≡ Some fault
         → IsRefusedHeader bytes fault
     of_form None same e = absurd (none_is_some fault e)
     of_form (Some y) same e = of_line y.0 y.1 (form_found bytes y same) (line_at 9 y.1) refl e
@@ -361,7 +384,7 @@ unfolding fault_at header_fault
 fault_only bytes fault is =
     let few = is.few in
     let line = line_only 9 is.text is.m (is.i ∷ is.l ∷ is.o ∷ is.a ∷ is.counts) is.rest is.line (omega (arith, few)) in
-    rw (is.begins, form_only is.form is.text, line) (over_only is.m is.o is.counts fault is.wrong)
+    rw (is.begins, form_only is.form is.text, line) (over_only is.form is.m is.i is.l is.o is.a is.counts fault is.wrong)
 
 pub header_unnamed : (bytes : List ℕ) (h : Header) (rest : List ℕ) → IsHeader bytes h rest → fault_at bytes ≡ None
 unfolding fault_at header_fault
@@ -370,4 +393,5 @@ header_unnamed bytes h rest is =
     let line = line_only 9 is.text h.greatest (h.inputs ∷ h.latches ∷ h.outputs ∷ h.gates ∷ is.zeros) rest is.line (omega (arith, few)) in
     let low : ltb 16777216 h.greatest ≡ false = le-ltb _ _ is.few_variables in
     let low' : ltb 16777216 h.outputs ≡ false = le-ltb _ _ is.few_outputs in
-    rw (is.begins, form_only h.form is.text, line, zeros_only is.zeros is.zero, low, low') refl
+    let fit = fits_only h.form h.greatest h.inputs h.latches h.gates is.variables in
+    rw (is.begins, form_only h.form is.text, line, zeros_only is.zeros is.zero, low, low', fit) refl

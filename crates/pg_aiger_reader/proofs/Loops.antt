@@ -19,6 +19,8 @@ fails faults.OutOfMemory step total h all = tt
 fails (faults.Syntax n) step total h all = all h
 fails (faults.NumberTooLarge n) step total h all = all h
 fails faults.TooLarge step total h all = h
+fails faults.TooFewVariables step total h all = h
+fails faults.OtherVariables step total h all = h
 fails (faults.LeftOut s) step total h all = h
 fails (faults.Reset n) step total h all = h
 

@@ -1,12 +1,12 @@
 -- How names are shown.
 use Rattle.std.proofs.Common.{◌≡◌, ℕ, false, List, refl, inl, inr}
 use Rattle.std.specs.List.{flat_map, list_any}
-use Rattle.std.specs.Str.{IsUtf8, is_utf8}
+use Rattle.std.specs.Str.{chars, IsUtf8, is_utf8}
 use Rattle.std.proofs.lemmas.Bool.{cases_Bool}
 use Rattle.std.proofs.lemmas.Str.{IsUtf8-from_is_utf8, is_utf8-from_IsUtf8}
-use Rattle.pg_aiger_reader.specs.FaultTexts.{is_control, escaped, name_text}
+use Rattle.pg_aiger_reader.specs.FaultTexts.{is_hidden, escaped, name_text}
 
-pub shown_as_it_is : (bytes : List ℕ) → list_any is_control bytes ≡ false → IsUtf8 bytes → name_text bytes ≡ bytes
+pub shown_as_it_is : (bytes : List ℕ) → list_any is_hidden (chars bytes) ≡ false → IsUtf8 bytes → name_text bytes ≡ bytes
 shown_as_it_is bytes none text = rw (is_utf8-from_IsUtf8 bytes text, none) refl
 
 pub escaped_for_bytes : (bytes : List ℕ) → ¬ IsUtf8 bytes → name_text bytes ≡ flat_map escaped bytes

@@ -1,9 +1,12 @@
 -- A text that is read spells what is read, and what a text spells is read.
-use Rattle.pg_aiger_reader.proofs.Common.{◌≡◌, ◌⊎◌, ℕ, ◌+◌, ◌≤◌, List, [], ◌++◌, take, drop, map}
+use Rattle.pg_aiger_reader.proofs.Common.{◌≡◌, ℕ, ◌+◌, ◌≤◌, List, [], ◌++◌, take, drop, map}
 use Rattle.pg_aiger_reader.proofs.Common.{length, Option, Some, None, refl, sym, ap, subst, ◌∙◌, inl, inr, ◌>>=◌, bytes_eq, codes}
-use Rattle.pg_aiger_reader.proofs.Common.{cases_Bool, true, some, some_is, none_is_some, take-append-drop, bytes_eq-Decides}
+use Rattle.pg_aiger_reader.proofs.Common.{true, some, some_is, none_is_some, take-append-drop, bytes_eq-Decides}
 use Rattle.pg_aiger_reader.proofs.Common.{header_at, sections_at, many_at, input_at, latch_at, gate_at, latches_at, symbols_at, text_at, length-map}
 use Rattle.pg_aiger_reader.proofs.Common.{Err, GivesAs, arith, fault_at, first_named, reset_fault, text_fault}
+use Rattle.pg_aiger_reader.proofs.Common.{Each, chosen, none, rules, behind_line, newline_at, take_at, drop_at}
+use Rattle.pg_aiger_reader.proofs.Lines.{is_plain, newline_found, newline_only, newline_of, line_made}
+use Rattle.std.specs.Prelude.{unwrap_or}
 use Rattle.pg_aiger_reader.proofs.Many.{many_found, many_only}
 use Rattle.pg_aiger_reader.proofs.ItemLaws.{input_found, input_only, latch_found, latch_only, gate_found, gate_only}
 use Rattle.pg_aiger_reader.proofs.Latches.{latches_found, latches_only, reset_found, reset_only, resets_none}
@@ -19,7 +22,7 @@ use Rattle.pg_aiger_reader.specs.declared.fault.ReaderFault.TheVariants as fault
 use Rattle.pg_aiger_reader.specs.declared.reader.Parts as declared
 use Rattle.pg_aiger.specs.Circuits.{Circuit}
 use Rattle.pg_aiger.specs.CircuitText.{Kind, input, latch, output, Symbol, count_of}
-use Rattle.pg_aiger_reader.specs.Texts.{AreItems, IsInput, IsOutput, IsLatch, IsGate, HasBody, IsBody, IsRead, SpellsNone, form_text, latch_in}
+use Rattle.pg_aiger_reader.specs.Texts.{HasLine, AreItems, IsInput, IsOutput, IsLatch, IsGate, HasBody, IsBody, IsRead, SpellsNone, form_text, latch_in}
 use Rattle.pg_aiger_reader.specs.Faults.{HasHeaderFault, HasReset, IsNamedFault, Refuses}
 use Rattle.pg_aiger_reader.specs.Views.{circuit_in, symbols_in}
 use Rattle.pg_aiger_reader.specs.Mirrors.Steps.{turned}
@@ -35,25 +38,54 @@ front_found : (n : ℕ) (line bytes : List ℕ) → bytes_eq (take n bytes) line
 front_found n line bytes h =
     sym (take-append-drop n bytes) ∙ ap (λ (t : List ℕ). t ++ drop n bytes) ((bytes_eq-Decides (take n bytes) line).0 h)
 
-verdict_found : (bytes : List ℕ) → HasBody bytes (behind_verdict bytes)
-verdict_found bytes =
-    elim (cases_Bool (bytes_eq (take 11 bytes) (codes "REALIZABLE\n"))) [
-      | inl h ↦
-          let whole = front_found 11 (codes "REALIZABLE\n") bytes h in
-          inr (inl (rw h whole))
-      | inr h ↦ elim (cases_Bool (bytes_eq (take 13 bytes) (codes "UNREALIZABLE\n"))) [
-        | inl k ↦
-            let whole = front_found 13 (codes "UNREALIZABLE\n") bytes k in
-            inr (inr (rw (h, k) whole))
-        | inr k ↦ inl (rw (h, k) refl)
-      ]
+behind_found : (line bytes rest : List ℕ) → Each is_plain line → behind_line line bytes ≡ Some rest → HasLine bytes line rest
+unfolding behind_line
+behind_found line bytes rest plain e =
+    let n = length line in
+    elim (chosen (bytes_eq (take n bytes) line) (newline_at (drop n bytes)) none (some rest) e) [
+      | inl w ↦ line_made line bytes (drop n bytes) rest plain (front_found n line bytes w.0) (newline_found (drop n bytes) rest w.1)
+      | inr w ↦ absurd (none_is_some rest w.1)
     ]
 
+behind_only : (line bytes rest : List ℕ) → HasLine bytes line rest → behind_line line bytes ≡ Some rest
+unfolding behind_line
+behind_only line bytes rest has =
+    let (behind, parts, newline) = newline_of bytes line rest has in
+    let same : bytes_eq line line ≡ true = (bytes_eq-Decides line line).1 refl in
+    rw (parts, take_at line behind (length line) refl, same, drop_at line behind (length line) refl) (newline_only behind rest newline)
+
+abbrev realizable : List ℕ
+realizable = codes "REALIZABLE"
+
+abbrev unrealizable : List ℕ
+unrealizable = codes "UNREALIZABLE"
+
+verdict_found : (bytes : List ℕ) → HasBody bytes (behind_verdict bytes)
+verdict_found bytes = of_first (behind_line realizable bytes) refl
+  where
+    of_second : (read : Option (List ℕ)) → behind_line unrealizable bytes ≡ read → HasBody bytes (unwrap_or read bytes)
+    of_second None same = inl refl
+    of_second (Some rest) same = inr (inr (behind_found unrealizable bytes rest (search rules) same))
+
+    of_first : (read : Option (List ℕ)) → behind_line realizable bytes ≡ read
+        → HasBody bytes (unwrap_or read (unwrap_or (behind_line unrealizable bytes) bytes))
+    of_first None same = of_second (behind_line unrealizable bytes) refl
+    of_first (Some rest) same = inr (inl (behind_found realizable bytes rest (search rules) same))
+
+-- a line that begins with another letter
+not_behind : (bytes rest : List ℕ) → HasLine bytes unrealizable rest → behind_line realizable bytes ≡ None
+unfolding behind_line
+not_behind bytes rest has = rw (newline_of bytes unrealizable rest has).1 refl
+
 verdict_only : (form : AigerFormat) (text bytes : List ℕ) → HasBody bytes (form_text form ++ text) → behind_verdict bytes ≡ form_text form ++ text
+unfolding behind_line
 verdict_only Ascii text bytes (inl e) = rw e refl
 verdict_only Binary text bytes (inl e) = rw e refl
-verdict_only form text bytes (inr (inl e)) = rw e refl
-verdict_only form text bytes (inr (inr e)) = rw e refl
+verdict_only form text bytes (inr (inl has)) =
+    ap (λ read. unwrap_or read (unwrap_or (behind_line unrealizable bytes) bytes)) (behind_only realizable bytes (form_text form ++ text) has)
+verdict_only form text bytes (inr (inr has)) =
+    ap (λ read. unwrap_or read (unwrap_or (behind_line unrealizable bytes) bytes)) (not_behind bytes (form_text form ++ text) has)
+    ∙ ap (λ read. unwrap_or read bytes) (behind_only unrealizable bytes (form_text form ++ text) has)
 
 -- a body that is the same
 same_body : (bytes body other : List ℕ) → body ≡ other → HasBody bytes body → HasBody bytes other
@@ -239,6 +271,8 @@ by_header bytes faults.OutOfMemory h = h
 by_header bytes (faults.Syntax n) h = h
 by_header bytes (faults.NumberTooLarge n) h = h
 by_header bytes faults.TooLarge h = h
+by_header bytes faults.TooFewVariables h = h
+by_header bytes faults.OtherVariables h = h
 by_header bytes (faults.LeftOut s) h = h
 
 header_wrong : (bytes : List ℕ) (fault : ReaderFault) → IsRefusedHeader (behind_verdict bytes) fault → HasHeaderFault bytes fault
@@ -341,6 +375,8 @@ text_fault_only bytes faults.OutOfMemory is = only_header bytes faults.OutOfMemo
 text_fault_only bytes (faults.Syntax n) is = only_header bytes (faults.Syntax n) is
 text_fault_only bytes (faults.NumberTooLarge n) is = only_header bytes (faults.NumberTooLarge n) is
 text_fault_only bytes faults.TooLarge is = only_header bytes faults.TooLarge is
+text_fault_only bytes faults.TooFewVariables is = only_header bytes faults.TooFewVariables is
+text_fault_only bytes faults.OtherVariables is = only_header bytes faults.OtherVariables is
 text_fault_only bytes (faults.LeftOut s) is = only_header bytes (faults.LeftOut s) is
 
 pub named_once : (bytes : List ℕ) (fault other : ReaderFault) → IsNamedFault bytes fault → IsNamedFault bytes other → fault ≡ other
@@ -371,5 +407,7 @@ is_refused bytes len faults.OutOfMemory e = tt
 is_refused bytes len (faults.Syntax n) e = (none_spelt bytes e.0, unnamed bytes e.1)
 is_refused bytes len (faults.NumberTooLarge n) e = (none_spelt bytes e.0, unnamed bytes e.1)
 is_refused bytes len faults.TooLarge e = (none_spelt bytes e.0, text_fault_found bytes faults.TooLarge e.1)
+is_refused bytes len faults.TooFewVariables e = (none_spelt bytes e.0, text_fault_found bytes faults.TooFewVariables e.1)
+is_refused bytes len faults.OtherVariables e = (none_spelt bytes e.0, text_fault_found bytes faults.OtherVariables e.1)
 is_refused bytes len (faults.LeftOut s) e = (none_spelt bytes e.0, text_fault_found bytes (faults.LeftOut s) e.1)
 is_refused bytes len (faults.Reset n) e = (none_spelt bytes e.0, text_fault_found bytes (faults.Reset n) e.1)

@@ -1,12 +1,12 @@
 -- The texts of faults.
 use Rattle.std.specs.Prelude.{ℕ, Bool, false, not, ◌/◌, ◌%◌, ◌==◌, ◌&&◌, ◌||◌, nat_lt, List, [], ◌∷◌, ◌++◌, codes, decimal, if◌then◌else◌}
 use Rattle.std.specs.List.{flat_map, list_any}
-use Rattle.std.specs.Str.{is_utf8}
+use Rattle.std.specs.Str.{chars, is_utf8}
 use Rattle.std.specs.Fmt.{digit_glyph}
 use Rattle.pg_aiger_reader.specs.declared.fault.Section.{Section}
 use Rattle.pg_aiger_reader.specs.declared.fault.Section.TheVariants.{BadStates, Constraints, Justice, Fairness}
 use Rattle.pg_aiger_reader.specs.declared.fault.ReaderFault.{ReaderFault}
-use Rattle.pg_aiger_reader.specs.declared.fault.ReaderFault.TheVariants.{OutOfMemory, Syntax, NumberTooLarge, TooLarge, LeftOut, Reset}
+use Rattle.pg_aiger_reader.specs.declared.fault.ReaderFault.TheVariants.{OutOfMemory, Syntax, NumberTooLarge, TooLarge, TooFewVariables, OtherVariables, LeftOut, Reset}
 use Rattle.pg_aiger_reader.specs.declared.fault.SideFault.{SideFault}
 use Rattle.pg_aiger_reader.specs.declared.fault.SideFault.TheVariants.{Missing, Twice, Shared, Nameless, Extra, Short, Long}
 use Rattle.pg_aiger_reader.specs.declared.fault.TieFault.{TieFault}
@@ -23,12 +23,16 @@ reader_fault_text OutOfMemory = codes "out of memory"
 reader_fault_text (Syntax offset) = codes "syntax error at byte " ++ decimal offset
 reader_fault_text (NumberTooLarge offset) = codes "number too large at byte " ++ decimal offset
 reader_fault_text TooLarge = codes "circuit too large"
+reader_fault_text TooFewVariables = codes "the header's M is less than I + L + A"
+reader_fault_text OtherVariables = codes "the header's M is not I + L + A"
 reader_fault_text (LeftOut section) = codes "the circuit has " ++ (section_text section ++ codes ", which are not read")
 reader_fault_text (Reset position) = codes "latch " ++ (decimal position ++ codes " does not start at 0")
 
--- a control character of ASCII
-abbrev pub is_control : ℕ → Bool
-is_control byte = nat_lt byte 32 || byte == 127
+-- a control character, or a mark that turns the direction of writing
+abbrev pub is_hidden : ℕ → Bool
+is_hidden character =
+    nat_lt character 32 || (nat_lt 126 character && nat_lt character 160) || (nat_lt 8205 character && nat_lt character 8208)
+    || (nat_lt 8233 character && nat_lt character 8239) || (nat_lt 8293 character && nat_lt character 8298)
 
 -- a byte as it is shown: a backslash twice, another byte that prints as it is, and any other as a backslash, `x` and its two digits in
 -- base 16
@@ -38,9 +42,9 @@ escaped byte =
     else (if nat_lt byte 32 || nat_lt 126 byte then codes "\\x" ++ (digit_glyph false (byte / 16) ∷ digit_glyph false (byte % 16) ∷ [])
     else byte ∷ [])
 
--- the name as it is, if it is UTF-8 without control characters; else with escapes
+-- the name as it is, if it is UTF-8 without hidden characters; else with escapes
 abbrev pub name_text : List ℕ → List ℕ
-name_text name = if is_utf8 name && not (list_any is_control name) then name else flat_map escaped name
+name_text name = if is_utf8 name && not (list_any is_hidden (chars name)) then name else flat_map escaped name
 
 -- the word is `input` or `output`
 abbrev pub side_fault_text : List ℕ → SideFault → List ℕ

@@ -1,12 +1,13 @@
 -- Why a text is refused.
-use Rattle.std.specs.Prelude.{◌≡◌, ◌≢◌, ◌⊎◌, ℕ, zero, suc, ◌<◌, ◌≤◌, List, [], ◌∷◌, ◌++◌, length}
+use Rattle.std.specs.Prelude.{◌≡◌, ◌≢◌, ◌⊎◌, ℕ, zero, suc, ◌+◌, ◌<◌, ◌≤◌, List, [], ◌∷◌, ◌++◌, length}
 use Rattle.std.specs.List.{AllByRecursion}
 use Rattle.pg_aiger.specs.Circuits.{Circuit}
 use Rattle.pg_aiger_reader.specs.declared.fault.Section.{Section}
 use Rattle.pg_aiger_reader.specs.declared.fault.Section.TheVariants.{BadStates, Constraints, Justice, Fairness}
 use Rattle.pg_aiger_reader.specs.declared.fault.ReaderFault.{ReaderFault}
-use Rattle.pg_aiger_reader.specs.declared.fault.ReaderFault.TheVariants.{OutOfMemory, Syntax, NumberTooLarge, TooLarge, LeftOut, Reset}
+use Rattle.pg_aiger_reader.specs.declared.fault.ReaderFault.TheVariants.{OutOfMemory, Syntax, NumberTooLarge, TooLarge, TooFewVariables, OtherVariables, LeftOut, Reset}
 use Rattle.pg_aiger_reader.specs.declared.item.AigerFormat.{AigerFormat}
+use Rattle.pg_aiger_reader.specs.declared.item.AigerFormat.TheVariants.{Ascii, Binary}
 use Rattle.pg_aiger_reader.specs.declared.item.LatchLine.{LatchLine}
 use Rattle.pg_aiger_reader.specs.Texts.{BeginsLine, form_text, HasBody, IsBody, SpellsNone}
 
@@ -18,11 +19,17 @@ IsLeftOut Justice (b ∷ c ∷ j ∷ counts) = (b ≡ 0) × (c ≡ 0) × (j ≢ 
 IsLeftOut Fairness (b ∷ c ∷ j ∷ f ∷ counts) = (b ≡ 0) × (c ≡ 0) × (j ≡ 0) × (f ≢ 0)
 IsLeftOut _ _ = ⊥
 
--- the named fault of a header with these numbers M and O, and these numbers after A
-abbrev pub IsHeaderFault : ℕ → ℕ → List ℕ → ReaderFault → Type 0
-IsHeaderFault m o counts (LeftOut section) = IsLeftOut section counts
-IsHeaderFault m o counts TooLarge = AllByRecursion (λ n. n ≡ 0) counts × ((16777216 < m) ⊎ (16777216 < o))
-IsHeaderFault m o counts _ = ⊥
+-- nothing is left out, and M and O are within the limits
+abbrev pub IsWithin : ℕ → ℕ → List ℕ → Type 0
+IsWithin m o counts = AllByRecursion (λ n. n ≡ 0) counts × (m ≤ 16777216) × (o ≤ 16777216)
+
+-- the named fault of a header in this form with these numbers M, I + L + A and O, and these numbers after A
+abbrev pub IsHeaderFault : AigerFormat → ℕ → ℕ → ℕ → List ℕ → ReaderFault → Type 0
+IsHeaderFault form m defined o counts (LeftOut section) = IsLeftOut section counts
+IsHeaderFault form m defined o counts TooLarge = AllByRecursion (λ n. n ≡ 0) counts × ((16777216 < m) ⊎ (16777216 < o))
+IsHeaderFault form m defined o counts TooFewVariables = IsWithin m o counts × (form ≡ Ascii) × (m < defined)
+IsHeaderFault form m defined o counts OtherVariables = IsWithin m o counts × (form ≡ Binary) × (defined ≢ m)
+IsHeaderFault form m defined o counts _ = ⊥
 
 -- The bytes begin with a header, perhaps after a line `REALIZABLE` or `UNREALIZABLE`, that is refused with this fault.
 pub record HasHeaderFault (bytes : List ℕ) (fault : ReaderFault) : Type 0 where
@@ -38,7 +45,7 @@ pub record HasHeaderFault (bytes : List ℕ) (fault : ReaderFault) : Type 0 wher
   pub whole : HasBody bytes (form_text form ++ text)
   pub line : BeginsLine text (m ∷ i ∷ l ∷ o ∷ a ∷ counts) rest
   pub few : length counts ≤ 4
-  pub wrong : IsHeaderFault m o counts fault
+  pub wrong : IsHeaderFault form m (i + l + a) o counts fault
 
 -- the latch at this place is the first that doesn't start at 0
 abbrev pub IsFirstReset : List LatchLine → ℕ → Type 0

@@ -1,17 +1,26 @@
 -- Circuits in the AIGER format as any tool writes them: in the ASCII form or the binary one, as of 2007 or as of version 1.9.
-use Rattle.std.specs.Prelude.{◌≡◌, ◌⊎◌, ℕ, suc, ◌+◌, ◌-◌, ◌*◌, ◌^◌, ◌<◌, ◌≤◌, List, [], ◌∷◌, ◌++◌, length, map, codes}
+use Rattle.std.specs.Prelude.{◌≡◌, ◌≢◌, ◌⊎◌, ℕ, zero, suc, ◌+◌, ◌-◌, ◌*◌, ◌^◌, ◌<◌, ◌≤◌, List, [], ◌∷◌, ◌++◌, length, map, codes}
 use Rattle.std.specs.List.{AllByRecursion}
+use Rattle.pg_list_lemmas.specs.Bytes.{Each}
 use Rattle.pg_aiger.specs.declared.gate.Gate.{Gate}
 use Rattle.pg_aiger_reader.specs.declared.item.AigerFormat.{AigerFormat}
 use Rattle.pg_aiger_reader.specs.declared.item.AigerFormat.TheVariants.{Ascii, Binary}
 use Rattle.pg_aiger_reader.specs.declared.item.LatchLine.{LatchLine}
 use Rattle.pg_aiger.specs.Circuits.{Circuit}
 use Rattle.pg_aiger.specs.declared.gate.Latch.{Latch}
-use Rattle.pg_aiger.specs.CircuitText.{Symbol, Begins, numbers, symbol, count_of}
+use Rattle.pg_aiger.specs.CircuitText.{Symbol, AreNumbers, Says, symbol, is_inner, count_of}
+
+-- The bytes begin with this line, and the rest follows. A carriage return and a newline end the line, or a newline alone, if there is no
+-- carriage return before it.
+pub record HasLine (bytes line rest : List ℕ) : Type 0 where
+  pub single : Each is_inner line
+  pub ends : (bytes ≡ line ++ (codes "\r\n" ++ rest)) ⊎ ((bytes ≡ line ++ (codes "\n" ++ rest)) × ((front : List ℕ) → line ≢ front ++ codes "\r"))
 
 -- the bytes begin with a line of these numbers, each below 2^32; the rest follows
 pub record BeginsLine (bytes ns rest : List ℕ) : Type 0 where
-  pub line : Begins bytes (numbers ns) rest
+  pub line : List ℕ
+  pub begins : HasLine bytes line rest
+  pub says : AreNumbers line ns
   pub small : AllByRecursion (λ n. n < 2 ^ 32) ns
 
 -- items one after another, each for the next variable; the rest follows
@@ -66,13 +75,22 @@ abbrev pub IsGate : AigerFormat → ℕ → List ℕ → Gate → List ℕ → T
 IsGate Ascii variable bytes gate rest = BeginsLine bytes (gate.lhs ∷ gate.rhs0 ∷ gate.rhs1 ∷ []) rest
 IsGate Binary variable bytes gate rest = IsBinaryGate variable bytes gate rest
 
+-- the bytes begin with a line of this symbol; the rest follows
+abbrev pub BeginsSymbol : List ℕ → Symbol → List ℕ → Type 0
+BeginsSymbol bytes s rest = (line : List ℕ) × HasLine bytes line rest × Says line (symbol s) × (s.position < 2 ^ 32)
+
 -- a symbol's line; the symbol names something of the circuit
 abbrev pub IsSymbol : Circuit → ℕ → List ℕ → Symbol → List ℕ → Type 0
-IsSymbol circuit _ bytes s rest = Begins bytes (symbol s) rest × (s.position < count_of circuit s.kind) × (s.position < 2 ^ 32)
+IsSymbol circuit _ bytes s rest = BeginsSymbol bytes s rest × (s.position < count_of circuit s.kind)
 
--- nothing, or a line `c` and anything after it
+-- this many empty lines, and nothing else
+abbrev pub AreEmptyLines : ℕ → List ℕ → Type 0
+AreEmptyLines zero bytes = bytes ≡ []
+AreEmptyLines (suc count) bytes = (rest : List ℕ) × HasLine bytes [] rest × AreEmptyLines count rest
+
+-- nothing but empty lines, if any, or `c` and anything after it
 abbrev pub IsComment : List ℕ → Type 0
-IsComment bytes = (bytes ≡ []) ⊎ ((rest : List ℕ) × (bytes ≡ codes "c\n" ++ rest))
+IsComment bytes = ((count : ℕ) × AreEmptyLines count bytes) ⊎ ((rest : List ℕ) × (bytes ≡ codes "c" ++ rest))
 
 abbrev pub form_text : AigerFormat → List ℕ
 form_text Ascii = codes "aag "
@@ -110,7 +128,7 @@ pub record IsBody (form : AigerFormat) (bytes : List ℕ) (circuit : Circuit) (l
   pub few_variables : circuit.greatest ≤ 16777216
   pub few_outputs : length circuit.outputs ≤ 16777216
 
--- The bytes spell the circuit and the symbols: after the gates come symbols, and perhaps a comment. All latches are 0 at first.
+-- The bytes spell the circuit and the symbols: after the gates come symbols, and perhaps a comment or empty lines. All latches are 0 at first.
 pub record IsText (form : AigerFormat) (bytes : List ℕ) (circuit : Circuit) (symbols : List Symbol) : Type 0 where
   pub lines : List LatchLine
   pub behind_gates : List ℕ
@@ -122,7 +140,7 @@ pub record IsText (form : AigerFormat) (bytes : List ℕ) (circuit : Circuit) (s
 
 -- a text, perhaps after the first line of an answer
 abbrev pub HasBody : List ℕ → List ℕ → Type 0
-HasBody bytes body = (bytes ≡ body) ⊎ ((bytes ≡ codes "REALIZABLE\n" ++ body) ⊎ (bytes ≡ codes "UNREALIZABLE\n" ++ body))
+HasBody bytes body = (bytes ≡ body) ⊎ (HasLine bytes (codes "REALIZABLE") body ⊎ HasLine bytes (codes "UNREALIZABLE") body)
 
 -- The bytes spell the circuit and the symbols, perhaps after a line `REALIZABLE` or `UNREALIZABLE`.
 pub record IsRead (bytes : List ℕ) (circuit : Circuit) (symbols : List Symbol) : Type 0 where

@@ -31,6 +31,10 @@ pub enum ReaderFault {
     NumberTooLarge(usize),
     /// The header has more than 16,777,216 variables or outputs.
     TooLarge,
+    /// In the ASCII form, the header's greatest variable `M` is less than `I + L + A`.
+    TooFewVariables,
+    /// In the binary form, the header's greatest variable `M` isn't `I + L + A`.
+    OtherVariables,
     /// The header says that the circuit has some of these.
     LeftOut(Section),
     /// The latch with this index, counted from 0, doesn't start at 0.
@@ -65,6 +69,8 @@ impl fmt::Display for ReaderFault {
             ReaderFault::Syntax(offset) => write!(f, "syntax error at byte {offset}"),
             ReaderFault::NumberTooLarge(offset) => write!(f, "number too large at byte {offset}"),
             ReaderFault::TooLarge => f.write_str("circuit too large"),
+            ReaderFault::TooFewVariables => f.write_str("the header's M is less than I + L + A"),
+            ReaderFault::OtherVariables => f.write_str("the header's M is not I + L + A"),
             ReaderFault::LeftOut(section) => write!(
                 f,
                 "the circuit has {section}, which are not read"

@@ -2,7 +2,7 @@
 
 ghost use Rattle.std.specs.Prelude.{◌≡◌, IfOk, option_map};
 ghost use Rattle.pg_aiger_reader.specs.Mirrors.Steps.{GivesAs};
-ghost use Rattle.pg_aiger_reader.specs.Mirrors.Headers.{IsSmall, form_at, left_out, fits, header_of, header_at, header_fault, fault_at};
+ghost use Rattle.pg_aiger_reader.specs.Mirrors.Headers.{IsSmall, form_at, left_out, fits, misfit, header_of, header_at, header_fault, fault_at};
 
 use crate::fault::{ReaderFault, Section};
 use crate::item::AigerFormat;
@@ -58,10 +58,20 @@ fn fits(form: AigerFormat, greatest: u32, inputs: u32, latches: u32, gates: u32)
     }
 }
 
+/// Returns the fault of a header whose counts don't fit.
+fn misfit(form: AigerFormat) -> ReaderFault
+    ensures { result ≡ misfit form }
+{
+    match form {
+        AigerFormat::Ascii => ReaderFault::TooFewVariables,
+        AigerFormat::Binary => ReaderFault::OtherVariables,
+    }
+}
+
 /// Returns the header with the numbers of the first line. A syntax fault has the offset `left`, which counts from the end.
 #[tactic(auto, unfolding(crate::specs::Mirrors::Headers::header_of, crate::specs::Mirrors::Headers::header_fault))]
 fn header_of(form: AigerFormat, numbers: &[u32], left: usize) -> Result<Header, ReaderFault>
-    ensures read { GivesAs (λ x. x) (header_fault numbers.now) result (header_of form numbers.now) }
+    ensures read { GivesAs (λ x. x) (header_fault form numbers.now) result (header_of form numbers.now) }
     ensures small { IfOk result IsSmall }
 {
     match numbers {
@@ -73,7 +83,7 @@ fn header_of(form: AigerFormat, numbers: &[u32], left: usize) -> Result<Header, 
                 return Err(ReaderFault::TooLarge);
             }
             if !fits(form, *greatest, *inputs, *latches, *gates) {
-                return Err(ReaderFault::Syntax(left));
+                return Err(misfit(form));
             }
             Ok(Header {
                 form,

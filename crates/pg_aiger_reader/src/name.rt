@@ -2,12 +2,14 @@
 
 ghost use Rattle.std.specs.Prelude.{◌≡◌, IfOk, IfSome, IsNone};
 ghost use Rattle.std.specs.List.{flat_map, list_any};
-ghost use Rattle.pg_aiger_reader.specs.FaultTexts.{is_control, escaped, name_text};
+ghost use Rattle.std.specs.Str.{chars};
+ghost use Rattle.pg_aiger_reader.specs.FaultTexts.{is_hidden, escaped, name_text};
 
 use std::alloc::{AllocError, Global};
 use std::{fmt, str};
 
-/// A name: any bytes. It is shown as it is if it is UTF-8 without control characters of ASCII, and otherwise with escapes.
+/// A name: any bytes. It is shown as it is if it is UTF-8 without control characters and marks that turn the direction of writing, and
+/// otherwise with escapes.
 #[derive(Debug, Drop)]
 pub struct Name {
     pub bytes: Vec<u8>,
@@ -43,18 +45,25 @@ impl fmt::Display for Escaped {
     }
 }
 
-/// Whether the byte is a control character of ASCII.
-fn is_control(byte: u8) -> bool
-    ensures { result ≡ is_control byte }
+/// Whether the character is a control character, or a mark that turns the direction of writing.
+fn is_hidden(character: char) -> bool
+    ensures { result ≡ is_hidden character }
 {
-    byte < 32 || byte == 127
+    matches!(
+        character,
+        '\0'..='\x1f'
+            | '\x7f'..='\u{9f}'
+            | '\u{200e}'..='\u{200f}'
+            | '\u{202a}'..='\u{202e}'
+            | '\u{2066}'..='\u{2069}'
+    )
 }
 
-/// Whether any of the bytes is a control character of ASCII.
-fn has_control(bytes: &[u8]) -> bool
-    ensures { result ≡ list_any is_control bytes.now }
+/// Whether any of the characters is one of these.
+fn has_hidden(text: &str) -> bool
+    ensures { result ≡ list_any is_hidden (chars text.now) }
 {
-    bytes.iter().any(|byte| is_control(*byte))
+    text.chars().any(|character| is_hidden(character))
 }
 
 /// Returns the name, if it can be shown as it is.
@@ -62,11 +71,13 @@ fn plain(bytes: &[u8]) -> Option<&str>
     ensures shown { IfSome result (λ text. (text.now ≡ bytes.now) × (name_text bytes.now ≡ bytes.now)) }
     ensures hidden { IsNone result → name_text bytes.now ≡ flat_map escaped bytes.now }
 {
-    if has_control(bytes) {
-        return None;
-    }
     match str::from_utf8(bytes) {
-        Ok(text) => Some(text),
+        Ok(text) => {
+            if has_hidden(text) {
+                return None;
+            }
+            Some(text)
+        }
         Err(_) => None,
     }
 }

@@ -1,12 +1,24 @@
-//! Lines of numbers.
+//! Lines of numbers, and the ends of lines.
 
-ghost use Rattle.std.specs.Prelude.{◌≡◌, ◌<◌, ◌^◌, SomeIff};
+ghost use Rattle.std.specs.Prelude.{◌≡◌, ◌<◌, ◌^◌, SomeIff, option_map};
 ghost use Rattle.std.specs.List.{prefix_len};
 ghost use Rattle.pg_list_lemmas.specs.Bytes.{is_digit, value_of};
 ghost use Rattle.pg_aiger_reader.specs.Mirrors.Steps.{Gives};
-ghost use Rattle.pg_aiger_reader.specs.Mirrors.Scan.{field_at, line_at};
+ghost use Rattle.pg_aiger_reader.specs.Mirrors.Scan.{newline_at, field_at, line_at};
 
 use crate::fault::ReaderFault;
+
+/// Returns the rest of the text after the end of a line, which is a newline or a carriage return and a newline, if the text begins with
+/// one.
+pub(crate) fn newline(bytes: &[u8]) -> Option<&[u8]>
+    ensures { option_map (λ rest. rest.now) result ≡ newline_at bytes.now }
+{
+    match bytes {
+        [b'\n', rest @ ..] => Some(rest),
+        [b'\r', b'\n', rest @ ..] => Some(rest),
+        _ => None,
+    }
+}
 
 fn is_digit(byte: u8) -> bool
     ensures { result ≡ is_digit byte }
@@ -35,8 +47,8 @@ fn value_of(digits: &[u8]) -> Option<u32>
     Some(value as u32)
 }
 
-/// Reads the number at the start, which a single space or a newline ends. Returns the number, whether its line ends after it, and the
-/// rest of the text.
+/// Reads the number at the start, which a single space or the end of its line follows. Returns the number, whether its line ends after
+/// it, and the rest of the text.
 #[tactic(auto, using(pg_list_lemmas::proofs::Runs::run_within), unfolding(crate::specs::Mirrors::Scan::field_at))]
 pub(crate) fn field(bytes: &[u8]) -> Result<(u32, bool, &[u8]), ReaderFault>
     ensures { Gives (λ x. (x.0, x.1, x.2.now)) result (field_at bytes.now) }
@@ -49,8 +61,10 @@ pub(crate) fn field(bytes: &[u8]) -> Result<(u32, bool, &[u8]), ReaderFault>
         None => Err(ReaderFault::NumberTooLarge(bytes.len())),
         Some(number) => match rest {
             [b' ', after @ ..] => Ok((number, false, after)),
-            [b'\n', after @ ..] => Ok((number, true, after)),
-            _ => Err(ReaderFault::Syntax(rest.len())),
+            _ => match newline(rest) {
+                Some(after) => Ok((number, true, after)),
+                None => Err(ReaderFault::Syntax(rest.len())),
+            },
         },
     }
 }

@@ -1,8 +1,8 @@
 //! Reading circuits.
 
-ghost use Rattle.std.specs.Prelude.{◌≡◌, IfOk, IfErr, ◌≢◌, Some, length, slice_get};
+ghost use Rattle.std.specs.Prelude.{◌≡◌, IfOk, IfErr, ◌≢◌, Some, length, slice_get, option_map};
 ghost use Rattle.pg_aiger_reader.specs.Mirrors.Steps.{GivesAs};
-ghost use Rattle.pg_aiger_reader.specs.Mirrors.Reading.{behind_verdict, latches_at, parts_in, reset_fault, text_at, text_fault};
+ghost use Rattle.pg_aiger_reader.specs.Mirrors.Reading.{behind_line, behind_verdict, latches_at, parts_in, reset_fault, text_at, text_fault};
 ghost use Rattle.pg_aiger_reader.specs.Views.{circuit_in, symbols_in};
 ghost use Rattle.pg_aiger_reader.specs.Texts.{IsRead};
 ghost use Rattle.pg_aiger_reader.specs.Faults.{Refuses};
@@ -10,6 +10,7 @@ ghost use Rattle.pg_aiger_reader.specs.Faults.{Refuses};
 use crate::fault::ReaderFault;
 use crate::header::read_header;
 use crate::item::LatchLine;
+use crate::number::newline;
 use crate::sections::read_sections;
 use crate::symbol::{Symbol, symbols};
 use pg_aiger::{Gate, Latch};
@@ -31,13 +32,24 @@ pub struct Parts<'a> {
     pub symbols: Vec<Symbol<'a>>,
 }
 
+/// Returns the text after this line, if the text begins with it.
+#[tactic(auto, unfolding(crate::specs::Mirrors::Reading::behind_line))]
+fn behind_line<'a>(line: &[u8], bytes: &'a [u8]) -> Option<&'a [u8]>
+    ensures { option_map (λ rest. rest.now) result ≡ behind_line line.now bytes.now }
+{
+    match bytes.strip_prefix(line) {
+        Some(rest) => newline(rest),
+        None => None,
+    }
+}
+
 /// Returns the text after a first line `REALIZABLE` or `UNREALIZABLE`, or the whole text if it has no such line.
 fn behind_verdict(bytes: &[u8]) -> &[u8]
     ensures { result.now ≡ behind_verdict bytes.now }
 {
-    match bytes.strip_prefix(b"REALIZABLE\n") {
+    match behind_line(b"REALIZABLE", bytes) {
         Some(body) => body,
-        None => match bytes.strip_prefix(b"UNREALIZABLE\n") {
+        None => match behind_line(b"UNREALIZABLE", bytes) {
             Some(body) => body,
             None => bytes,
         },
@@ -82,11 +94,12 @@ fn read<'a>(alloc: Global, bytes: &'a [u8]) -> Result<Parts<'a>, ReaderFault>
 }
 
 /// Reads a circuit in the AIGER format, in ASCII (`aag`) or binary (`aig`), of 2007 or version 1.9. It skips a first line `REALIZABLE` or
-/// `UNREALIZABLE`. The numbers of a line are separated by single spaces, and each line ends with a single newline. There are at most
-/// 16,777,216 variables, and at most 16,777,216 outputs.
+/// `UNREALIZABLE`. The numbers of a line are separated by single spaces, and each line ends with a newline, or with a carriage return and
+/// a newline. Symbols may follow, and then empty lines, or the letter `c` and any bytes. There are at most 16,777,216 variables, and at
+/// most 16,777,216 outputs.
 ///
-/// It fails with `LeftOut` or `TooLarge` because of the header, with `Reset` at the first latch that doesn't start at 0, with `Syntax` or
-/// `NumberTooLarge` at any other text that it can't read, and with `OutOfMemory` if memory runs out.
+/// It fails with `LeftOut`, `TooLarge`, `TooFewVariables` or `OtherVariables` because of the header, with `Reset` at the first latch that
+/// doesn't start at 0, with `Syntax` or `NumberTooLarge` at any other text that it can't read, and with `OutOfMemory` if memory runs out.
 ///
 /// It doesn't check that each used variable is defined, only once and not through itself; the code that makes a circuit from the parts
 /// does.

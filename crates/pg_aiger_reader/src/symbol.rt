@@ -5,11 +5,11 @@ ghost use Rattle.std.specs.List.{prefix_len};
 ghost use Rattle.pg_aiger.specs.CircuitText.{is_inner};
 ghost use Rattle.pg_aiger_reader.specs.Mirrors.Steps.{Gives};
 ghost use Rattle.pg_aiger_reader.specs.Views.{kind_in, symbol_in};
-ghost use Rattle.pg_aiger_reader.specs.Mirrors.Symbols.{count_in, kind_at, is_end, name_at, symbol_at, good_at, symbols_at};
+ghost use Rattle.pg_aiger_reader.specs.Mirrors.Symbols.{count_in, kind_at, is_blank, is_end, without_return, name_at, symbol_at, good_at, symbols_at};
 
 use crate::fault::ReaderFault;
 use crate::header::Header;
-use crate::number::field;
+use crate::number::{field, newline};
 use std::alloc::Global;
 
 /// What a symbol names.
@@ -26,7 +26,7 @@ pub struct Symbol<'a> {
     pub kind: SymbolKind,
     /// Its index among its kind, from 0.
     pub position: u32,
-    /// Any bytes but a newline.
+    /// Any bytes but a newline. A carriage return before the newline isn't part of it.
     pub name: &'a [u8],
 }
 
@@ -42,11 +42,23 @@ fn kind_of(letter: u8) -> Option<SymbolKind>
     }
 }
 
-/// Whether the text ends here, or has only a comment left.
+/// Whether there are only empty lines left.
+fn is_blank(bytes: &[u8]) -> bool
+    ensures { result ≡ is_blank bytes.now }
+{
+    let mut rest = bytes;
+    'lines: while let Some(after) = newline(rest) {
+        rest = after;
+    }
+    rest.is_empty()
+}
+
+/// Whether the text ends here, or has only a comment or empty lines left.
+#[tactic(auto, unfolding(crate::specs::Mirrors::Symbols::is_end))]
 fn is_end(bytes: &[u8]) -> bool
     ensures { result ≡ is_end bytes.now }
 {
-    matches!(bytes, [] | [b'c', b'\n', ..])
+    matches!(bytes, [b'c', ..]) || is_blank(bytes)
 }
 
 /// Returns how many bytes come before the next newline.
@@ -56,14 +68,25 @@ fn inner(bytes: &[u8]) -> usize
     bytes.iter().take_while(|byte| **byte != b'\n').count()
 }
 
-/// Returns the bytes before the next newline, and the rest of the text after it.
+/// Returns the line without a carriage return at its end.
+#[tactic(auto, unfolding(crate::specs::Mirrors::Symbols::without_return))]
+fn without_return(line: &[u8]) -> &[u8]
+    ensures { result.now ≡ without_return line.now }
+{
+    match line.strip_suffix(b"\r") {
+        Some(line) => line,
+        None => line,
+    }
+}
+
+/// Returns the bytes before the end of the line, and the rest of the text after it.
 #[tactic(auto, using(pg_list_lemmas::proofs::Runs::run_within), unfolding(crate::specs::Mirrors::Symbols::name_at))]
 fn name(bytes: &[u8]) -> Result<(&[u8], &[u8]), ReaderFault>
     ensures { Gives (λ x. (x.0.now, x.1.now)) result (name_at bytes.now) }
 {
     let len = inner(bytes);
     if len < bytes.len() {
-        Ok((&bytes[..len], &bytes[len + 1..]))
+        Ok((without_return(&bytes[..len]), &bytes[len + 1..]))
     } else {
         Err(ReaderFault::Syntax(0))
     }
@@ -121,7 +144,7 @@ fn good_symbol<'a>(header: &Header, bytes: &'a [u8]) -> Result<(Symbol<'a>, &'a 
     }
 }
 
-/// Reads the symbols up to the end or a comment. Each of them must name something.
+/// Reads the symbols up to a comment, empty lines or the end. Each of them must name something.
 pub(crate) fn symbols<'a>(
     alloc: Global,
     header: &Header,

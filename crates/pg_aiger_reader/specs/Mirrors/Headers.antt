@@ -4,7 +4,7 @@ use Rattle.pg_hoa_automaton.specs.Mirrors.Steps.{◌>>=◌}
 use Rattle.pg_aiger_reader.specs.declared.fault.Section.{Section}
 use Rattle.pg_aiger_reader.specs.declared.fault.Section.TheVariants.{BadStates, Constraints, Justice, Fairness}
 use Rattle.pg_aiger_reader.specs.declared.fault.ReaderFault.{ReaderFault}
-use Rattle.pg_aiger_reader.specs.declared.fault.ReaderFault.TheVariants.{TooLarge, LeftOut}
+use Rattle.pg_aiger_reader.specs.declared.fault.ReaderFault.TheVariants.{TooLarge, TooFewVariables, OtherVariables, LeftOut}
 use Rattle.pg_aiger_reader.specs.declared.header.Header.{Header}
 use Rattle.pg_aiger_reader.specs.declared.item.AigerFormat.{AigerFormat}
 use Rattle.pg_aiger_reader.specs.declared.item.AigerFormat.TheVariants.{Ascii, Binary}
@@ -49,17 +49,24 @@ header_of form ns = None
 unfoldable pub header_at : List ℕ → Option (Header × List ℕ)
 header_at bytes = form_at bytes >>= λ x. line_at 9 x.1 >>= λ y. header_of x.0 y.0 >>= λ h. Some (h, y.1)
 
--- the named fault of a header, if it has one
-abbrev pub over : ℕ → ℕ → Option Section → Option ReaderFault
-over m o (Some section) = Some (LeftOut section)
-over m o None = if nat_lt 16777216 m || nat_lt 16777216 o then Some TooLarge else None
+-- the fault of a header whose counts don't fit
+abbrev pub misfit : AigerFormat → ReaderFault
+misfit Ascii = TooFewVariables
+misfit Binary = OtherVariables
 
-unfoldable pub header_fault : List ℕ → Option ReaderFault
-header_fault (m ∷ i ∷ l ∷ o ∷ a ∷ more) = over m o (left_out more)
-header_fault ns = None
+-- the named fault of a header, if it has one
+abbrev pub over : AigerFormat → ℕ → ℕ → ℕ → ℕ → ℕ → Option Section → Option ReaderFault
+over form m i l o a (Some section) = Some (LeftOut section)
+over form m i l o a None =
+    if nat_lt 16777216 m || nat_lt 16777216 o then Some TooLarge
+    else (if fits form m i l a then None else Some (misfit form))
+
+unfoldable pub header_fault : AigerFormat → List ℕ → Option ReaderFault
+header_fault form (m ∷ i ∷ l ∷ o ∷ a ∷ more) = over form m i l o a (left_out more)
+header_fault form ns = None
 
 unfoldable pub fault_at : List ℕ → Option ReaderFault
-fault_at bytes = form_at bytes >>= λ x. line_at 9 x.1 >>= λ y. header_fault y.0
+fault_at bytes = form_at bytes >>= λ x. line_at 9 x.1 >>= λ y. header_fault x.0 y.0
 
 -- what the sections can rely on
 pub record IsSmall (header : Header) : Type 0 where

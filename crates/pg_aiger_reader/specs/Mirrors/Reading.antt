@@ -1,5 +1,5 @@
 -- What the reader computes: a mirror of it for proofs, whose laws are in proofs/.
-use Rattle.std.specs.Prelude.{ℕ, suc, ◌+◌, ◌==◌, List, [], ◌∷◌, length, take, drop, Option, Some, None, codes, if◌then◌else◌}
+use Rattle.std.specs.Prelude.{ℕ, suc, ◌+◌, ◌==◌, List, [], ◌∷◌, length, take, drop, Option, Some, None, codes, unwrap_or, if◌then◌else◌}
 use Rattle.std.specs.Str.{bytes_eq}
 use Rattle.pg_hoa_automaton.specs.Mirrors.Steps.{◌>>=◌}
 use Rattle.pg_aiger.specs.declared.gate.Latch.{Latch}
@@ -11,16 +11,19 @@ use Rattle.pg_aiger_reader.specs.Texts.{latch_in}
 use Rattle.pg_aiger_reader.specs.Views.{circuit_in, symbols_in}
 use Rattle.pg_aiger_reader.specs.declared.fault.ReaderFault.{ReaderFault}
 use Rattle.pg_aiger_reader.specs.declared.fault.ReaderFault.TheVariants.{Reset}
+use Rattle.pg_aiger_reader.specs.Mirrors.Scan.{newline_at}
 use Rattle.pg_aiger_reader.specs.Mirrors.Steps.{first_named}
 use Rattle.pg_aiger_reader.specs.Mirrors.Headers.{header_at, fault_at}
 use Rattle.pg_aiger_reader.specs.Mirrors.Sections.{Parts, sections_at}
 use Rattle.pg_aiger_reader.specs.Mirrors.Symbols.{symbols_at}
 
+-- the rest of a text that begins with this line
+unfoldable pub behind_line : List ℕ → List ℕ → Option (List ℕ)
+behind_line line bytes = if bytes_eq (take (length line) bytes) line then newline_at (drop (length line) bytes) else None
+
 abbrev pub behind_verdict : List ℕ → List ℕ
 behind_verdict bytes =
-    if bytes_eq (take 11 bytes) (codes "REALIZABLE\n") then drop 11 bytes
-    else if bytes_eq (take 13 bytes) (codes "UNREALIZABLE\n") then drop 13 bytes
-    else bytes
+    unwrap_or (behind_line (codes "REALIZABLE") bytes) (unwrap_or (behind_line (codes "UNREALIZABLE") bytes) bytes)
 
 unfoldable pub latches_at : List LatchLine → Option (List Latch)
 latches_at [] = Some []

@@ -1,5 +1,5 @@
 -- What the functions that read compute: a mirror of them for proofs, whose laws are in proofs/.
-use Rattle.std.specs.Prelude.{ℕ, suc, zero, ◌^◌, ◌==◌, Bool, true, false, List, [], ◌∷◌}
+use Rattle.std.specs.Prelude.{ℕ, suc, zero, ◌^◌, ◌==◌, ◌&&◌, Bool, true, false, List, [], ◌∷◌}
 use Rattle.std.specs.Prelude.{drop, Option, Some, None, nat_lt, if◌then◌else◌}
 use Rattle.std.specs.List.{prefix_len, take_while}
 use Rattle.pg_list_lemmas.specs.Bytes.{is_digit, value_of}
@@ -7,13 +7,19 @@ use Rattle.pg_hoa_automaton.specs.Mirrors.Steps.{◌>>=◌}
 
 -- ---- lines of numbers
 
+-- the rest of the text after the end of a line
+abbrev pub newline_at : List ℕ → Option (List ℕ)
+newline_at [] = None
+newline_at (b ∷ []) = if b == 10 then Some [] else None
+newline_at (b ∷ c ∷ rest) =
+    if b == 10 then Some (c ∷ rest)
+    else (if b == 13 && c == 10 then Some rest
+    else None)
+
 -- what follows a number: whether its line ends, and the rest of the text
 abbrev pub ended : ℕ → List ℕ → Option (ℕ × Bool × List ℕ)
 ended n [] = None
-ended n (b ∷ rest) =
-    if b == 32 then Some (n, false, rest)
-    else (if b == 10 then Some (n, true, rest)
-    else None)
+ended n (b ∷ rest) = if b == 32 then Some (n, false, rest) else (newline_at (b ∷ rest) >>= λ after. Some (n, true, after))
 
 unfoldable pub field_at : List ℕ → Option (ℕ × Bool × List ℕ)
 field_at bytes =

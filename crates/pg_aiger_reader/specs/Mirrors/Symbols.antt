@@ -1,6 +1,7 @@
 -- What the functions that read symbols compute: a mirror of them for proofs, whose laws are in proofs/.
-use Rattle.std.specs.Prelude.{ℕ, suc, zero, ◌+◌, ◌==◌, ◌&&◌, Bool, true, false, List, [], ◌∷◌, length, drop, Option, Some, None, nat_lt}
-use Rattle.std.specs.Prelude.{if◌then◌else◌}
+use Rattle.std.specs.Prelude.{ℕ, suc, zero, ◌+◌, ◌-◌, ◌==◌, ◌&&◌, ◌||◌, Bool, true, false, List, [], ◌∷◌, length, take, drop, Option, Some, None, nat_lt}
+use Rattle.std.specs.Prelude.{codes, if◌then◌else◌}
+use Rattle.std.specs.Str.{bytes_eq}
 use Rattle.std.specs.List.{prefix_len, take_while}
 use Rattle.pg_hoa_automaton.specs.Mirrors.Steps.{◌>>=◌}
 use Rattle.pg_aiger_reader.specs.declared.header.Header.{Header}
@@ -20,15 +21,28 @@ kind_at b =
     else (if b == 111 then Some output
     else None))
 
-abbrev pub is_end : List ℕ → Bool
-is_end [] = true
-is_end (b ∷ []) = false
-is_end (b ∷ c ∷ rest) = b == 99 && c == 10
+-- nothing but empty lines
+unfoldable pub is_blank : List ℕ → Bool
+is_blank [] = true
+is_blank (b ∷ []) = b == 10
+is_blank (b ∷ c ∷ rest) = if b == 10 then is_blank (c ∷ rest) else b == 13 && c == 10 && is_blank rest
+
+-- a comment
+abbrev pub is_comment : List ℕ → Bool
+is_comment [] = false
+is_comment (b ∷ rest) = b == 99
+
+unfoldable pub is_end : List ℕ → Bool
+is_end bytes = is_comment bytes || is_blank bytes
+
+-- a line without a carriage return at its end
+unfoldable pub without_return : List ℕ → List ℕ
+without_return line = if bytes_eq (drop (length line - 1) line) (codes "\r") then take (length line - 1) line else line
 
 unfoldable pub name_at : List ℕ → Option (List ℕ × List ℕ)
 name_at bytes =
     if nat_lt (prefix_len is_inner bytes) (length bytes)
-    then Some (take_while is_inner bytes, drop (prefix_len is_inner bytes + 1) bytes)
+    then Some (without_return (take_while is_inner bytes), drop (prefix_len is_inner bytes + 1) bytes)
     else None
 
 -- the name after the position, if a space separates them
