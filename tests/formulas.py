@@ -384,7 +384,10 @@ REFUSED = {
     "a byte that begins no word after a formula": ("a & b $", "syntax error at byte 6"),
     "a byte that begins no word before two names": ("a & $ b c", "syntax error at byte 4"),
     "a name without a letter": ('a & ""', "syntax error at byte 4"),
-    "seventeen names before a byte that begins no word": ("&".join("abcdefghijklmnopq") + "$", "more than 16 propositions"),
+    "65,536 names": (" & ".join(f"p{i}" for i in range(65536)), "more than 65535 propositions"),
+    "65,536 names before a byte that begins no word": (" & ".join(f"p{i}" for i in range(65536)) + "$", "more than 65535 propositions"),
+    "seventeen names before a byte that begins no word": ("&".join("abcdefghijklmnopq") + "$", "syntax error at byte 33"),
+    "4,098 names": (" & ".join(f"p{i}" for i in range(4098)), "more than 4096 operators"),
     "no operator before seventeen names": ("a&b&c&d&e&f g&h&i&j&k&l&m&n&o&p&q", "syntax error at byte 12"),
 }
 

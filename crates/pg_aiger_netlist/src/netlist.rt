@@ -2,7 +2,7 @@
 
 ghost use Rattle.std.specs.Prelude.{◌≡◌, IfOk, IfErr};
 ghost use Rattle.pg_aiger_netlist.specs.Netlists.{IsAcyclic, IsFaultOf};
-ghost use Rattle.pg_aiger_netlist.specs.Mirrors.Views.{circuit};
+ghost use Rattle.pg_aiger_netlist.specs.Mirrors.Views.{circuit, IsOrder};
 
 use crate::fault::NetlistFault;
 use crate::marks::{check_uses, definitions_of, marked, sources_of, uses_of};
@@ -68,5 +68,33 @@ impl Netlist {
             gates,
             ordered,
         })
+    }
+
+    /// Returns the greatest variable that a literal may have.
+    pub fn greatest(&self) -> u32
+        ensures { result ≡ self.now.greatest }
+    {
+        self.greatest
+    }
+
+    /// Returns the literals of the inputs, in the circuit's order.
+    pub fn input_literals(&self) -> &[u32]
+        ensures { result.now ≡ self.now.inputs }
+    {
+        &self.inputs
+    }
+
+    /// Returns the latches, in the circuit's order.
+    pub fn latch_lines(&self) -> &[Latch]
+        ensures { result.now ≡ self.now.latches }
+    {
+        &self.latches
+    }
+
+    /// Returns the gates, each after the gates whose variables it uses.
+    pub fn ordered_gates(&self) -> &[Gate]
+        ensures { IsOrder self.now result.now }
+    {
+        &self.ordered
     }
 }

@@ -72,13 +72,13 @@ module _ (bytes : List ℕ) (t : Tokens) (stop : Stop) (end : ℕ) (text : IsTex
   same_tokens : behind_blanks text.rest ≡ [] → (all : List Word) → Spells bytes all → noted all ≡ noted_in t
   same_tokens e all spelt = ap noted (words_once bytes all words spelt (begins_all bytes words text.rest begins e)) ∙ is
 
-  too_many_names : 16 < length (noted_in t).names → SpellsNone bytes
+  too_many_names : 65535 < length (noted_in t).names → SpellsNone bytes
   too_many_names many names f spelt =
       let o = begins_only bytes words text.rest spelt.words begins spelt.spelt in
       let grown : length (noted words).names ≤ length (noted spelt.words).names =
       subst (λ (n : Noted). length (noted words).names ≤ length n.names)
       (sym (ap noted o.1 ∙ noted-append words o.0)) (names_grow o.0 (noted words)) in
-      let few : length (noted spelt.words).names ≤ 16 = subst (λ (ns : List (List ℕ)). length ns ≤ 16) (sym spelt.named) spelt.few_names in
+      let few : length (noted spelt.words).names ≤ 65535 = subst (λ (ns : List (List ℕ)). length ns ≤ 65535) (sym spelt.named) spelt.few_names in
       let same : length (noted words).names ≡ length (noted_in t).names = ap (λ (n : Noted). length n.names) is in
       omega (arith, many, grown, few, same)
 
@@ -128,7 +128,7 @@ module _ (bytes : List ℕ) (t : Tokens) (stop : Stop) (end : ℕ) (text : IsTex
               rest = text.rest;
               begins = begins;
               before = whole_before before;
-              many = subst (λ (n : Noted). 16 < length n.names) (sym is) stops;
+              many = subst (λ (n : Noted). 65535 < length n.names) (sym is) stops;
             },
           )
 

@@ -41,7 +41,7 @@ pub record Spelt (bytes : List ℕ) (names : List (List ℕ)) (f : Formula) : Ty
   pub spelt : Spells bytes words
   pub named : (noted words).names ≡ names
   pub tokens : AreTokensOf (noted words).tokens f
-  pub few_names : length names ≤ 16
+  pub few_names : length names ≤ 65535
   pub few_operators : count_by is_operator (noted words).tokens ≤ 4096
 
 -- the bytes spell no formula within the limits
@@ -69,7 +69,7 @@ pub record HasTooManyNames (bytes : List ℕ) : Type 0 where
   pub rest : List ℕ
   pub begins : Begins bytes words rest
   pub before : BeginsOne (noted words).tokens
-  pub many : 16 < length (noted words).names
+  pub many : 65535 < length (noted words).names
 
 -- the words are those of a formula with too many operators
 pub record HasTooManyOperators (bytes : List ℕ) : Type 0 where

@@ -14,7 +14,7 @@ pub enum FormulaFault {
     OutOfMemory,
     /// No word begins at this offset, a quoted name that begins there doesn't end, or another word is expected there.
     Syntax(usize),
-    /// The text has more than 16 names.
+    /// The text has more than 65,535 names.
     TooManyNames,
     /// The text has more than 4,096 operators.
     TooManyOperators,
@@ -30,7 +30,7 @@ impl fmt::Display for FormulaFault {
         match self {
             FormulaFault::OutOfMemory => f.write_str("out of memory"),
             FormulaFault::Syntax(offset) => write!(f, "syntax error at byte {offset}"),
-            FormulaFault::TooManyNames => f.write_str("more than 16 propositions"),
+            FormulaFault::TooManyNames => f.write_str("more than 65535 propositions"),
             FormulaFault::TooManyOperators => f.write_str("more than 4096 operators"),
         }
     }

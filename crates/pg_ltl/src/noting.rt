@@ -10,6 +10,9 @@ use crate::token::FormulaToken;
 use crate::word::{Word, behind_blanks, word_at};
 use std::alloc::{AllocError, Global};
 
+/// The most names that a text may have.
+const MOST_NAMES: usize = 65_535;
+
 /// The names of a text in order of first appearance, its tokens, and the offset of each token's first byte.
 #[derive(Drop)]
 pub struct Tokens {
@@ -25,7 +28,7 @@ pub enum Stop {
     End,
     /// No word begins at the next byte.
     NoWord,
-    /// There were more than 16 names.
+    /// There were more than 65,535 names.
     Overfull,
 }
 
@@ -79,7 +82,7 @@ fn named(
 
 /// Returns the tokens with one more word, which begins at the byte `offset`.
 fn noted(alloc: Global, tokens: Tokens, word: Word<'_>, offset: usize) -> Result<Tokens, AllocError>
-    requires { length tokens.names.items ≤ 16 }
+    requires { length tokens.names.items ≤ 65535 }
     ensures value { IfOk result (λ t. noted_in t ≡ note (noted_in tokens) (as_word word.entry)) }
     ensures offsets { IfOk result (λ t. t.offsets.items ≡ tokens.offsets.items ++ (offset ∷ [])) }
 {
@@ -108,7 +111,7 @@ fn stop_at(bytes: &[u8]) -> Stop
     }
 }
 
-/// Splits a text into tokens and names: up to its end, to the first byte where no word begins, or to the seventeenth name.
+/// Splits a text into tokens and names: up to its end, to the first byte where no word begins, or to the 65,536th name.
 pub fn text_of(alloc: Global, bytes: &[u8]) -> Result<Text, AllocError>
     ensures { IfOk result (λ text. IsTextOf bytes.now text.tokens text.stop text.end) }
 {
@@ -121,7 +124,7 @@ pub fn text_of(alloc: Global, bytes: &[u8]) -> Result<Text, AllocError>
     'words: loop {
         let solid = behind_blanks(rest);
         let end = bytes.len().saturating_sub(solid.len());
-        if tokens.names.len() > 16 {
+        if tokens.names.len() > MOST_NAMES {
             return Ok(Text {
                 tokens,
                 stop: Stop::Overfull,

@@ -53,17 +53,17 @@ fn fault_at(text: &Text, place: usize) -> FormulaFault
 /// Reads a formula in Spot's syntax, and returns it with the names of its propositions in order of first appearance. The syntax has
 /// `! & | -> <-> xor`, `X F G U R W M`, `true`, `false`, brackets, and names, bare or in double quotes. `~`, `&&`, `||`, `=>`, `<=>`,
 /// `^`, `[]`, `<>`, `V`, `1` and `0` are alternative spellings. `;` separates formulas that must all hold, and may also follow the last
-/// one. A text has at most 16 names, and at most 4,096 operators, `;` included.
+/// one. A text has at most 65,535 names, and at most 4,096 operators, `;` included.
 ///
 /// The text is read from left to right. `Syntax` gives the offset of the first word that is out of place, or of the first byte where no
-/// word begins, or the text's length if more must follow. `TooManyNames` is returned at the seventeenth name, and `TooManyOperators` only
+/// word begins, or the text's length if more must follow. `TooManyNames` is returned at the 65,536th name, and `TooManyOperators` only
 /// at the end of the text. `OutOfMemory` is returned if an allocation fails.
 pub fn read_formula(alloc: Global, bytes: &[u8]) -> Result<(Vec<Vec<u8>>, Formula), FormulaFault>
     ensures found { IfOk result (λ x. Spelt bytes.now (map (λ v. v.items) x.0.items) (written x.1)) }
     // The names are valid names of an automaton's propositions, and the formula speaks of these propositions only.
     ensures names { IfOk result (λ x. AllByRecursion IsPropositionName (map (λ v. v.items) x.0.items)) }
     ensures speaks { IfOk result (λ x. SpeaksOf (length x.0.items) (written x.1)) }
-    ensures few { IfOk result (λ x. length x.0.items ≤ 16) }
+    ensures few { IfOk result (λ x. length x.0.items ≤ 65535) }
     ensures refused { IfErr result (IsRefused bytes.now) }
 {
     let text = text_of(alloc, bytes)?;

@@ -31,9 +31,9 @@ pub record HasPlaced (bytes : List ℕ) (t : Tokens) (rest : List ℕ) : Type 0 
 
 -- why reading of words stopped
 abbrev pub StopsFor : Stop → List ℕ → Noted → Type 0
-StopsFor End rest found = (behind_blanks rest ≡ []) × (length found.names ≤ 16)
+StopsFor End rest found = (behind_blanks rest ≡ []) × (length found.names ≤ 65535)
 StopsFor NoWord rest found = (behind_blanks rest ≢ []) × (word_at (behind_blanks rest) ≡ None)
-StopsFor Overfull rest found = 16 < length found.names
+StopsFor Overfull rest found = 65535 < length found.names
 
 -- the tokens of a text up to where they stop
 pub record IsTextOf (bytes : List ℕ) (t : Tokens) (stop : Stop) (end : ℕ) : Type 0 where

@@ -16,21 +16,21 @@ there_at : (bytes rest solid : List ℕ) (end : ℕ) → solid ≡ behind_blanks
     → length (behind_blanks rest) ≤ length bytes → end + length (behind_blanks rest) ≡ length bytes
 there_at bytes rest solid end s e less = let l = ap length s in omega (arith, l, e, less)
 
-few_there : (names : List (Vec ℕ Global)) → length names ≤ 16 → length (map (λ v. v.items) names) ≤ 16
+few_there : (names : List (Vec ℕ Global)) → length names ≤ 65535 → length (map (λ v. v.items) names) ≤ 65535
 few_there names few = let l = length-map names (λ (v : Vec ℕ Global). v.items) in omega (arith, l, few)
 
-many_there : (names : List (Vec ℕ Global)) → 16 < length names → 16 < length (map (λ v. v.items) names)
+many_there : (names : List (Vec ℕ Global)) → 65535 < length names → 65535 < length (map (λ v. v.items) names)
 many_there names many = let l = length-map names (λ (v : Vec ℕ Global). v.items) in omega (arith, l, many)
 
 stops_for : (solid rest : List ℕ) (found : Noted) (s : Stop) → solid ≡ behind_blanks rest → word_at (behind_blanks rest) ≡ None
-    → length found.names ≤ 16 → s ≡ stop_at solid → StopsFor s rest found
+    → length found.names ≤ 65535 → s ≡ stop_at solid → StopsFor s rest found
 stops_for [] rest found s e none few stop = subst (λ q. StopsFor q rest found) (sym stop) (sym e, few)
 stops_for (b ∷ solid) rest found s e none few stop =
     subst (λ q. StopsFor q rest found) (sym stop) (λ n. let z : length (b ∷ solid) ≡ 0 = ap length (e ∙ n) in omega (arith, z), none)
 
-pub returns-then-len-gt16 : goal.returns-then-len-gt16
-returns-then-len-gt16 c =
-    let many : 16 < length c.words.tokens.names.items = omega arith in
+pub returns-then-len-gt-MOST_NAMES : goal.returns-then-len-gt-MOST_NAMES
+returns-then-len-gt-MOST_NAMES c =
+    let many : 65535 < length c.words.tokens.names.items = omega arith in
     record {
       rest = c.words.rest.now;
       has = c.words.invariant;
@@ -55,7 +55,7 @@ words-preserved c =
 
 pub returns-in-None : goal.returns-in-None
 returns-in-None c =
-    let few : length c.words.tokens.names.items ≤ 16 = omega arith in
+    let few : length c.words.tokens.names.items ≤ 65535 = omega arith in
     record {
       rest = c.words.rest.now;
       has = c.words.invariant;
