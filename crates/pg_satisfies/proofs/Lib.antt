@@ -1,0 +1,3 @@
+pub mod Endless
+pub mod Attempting
+pub mod Deciding

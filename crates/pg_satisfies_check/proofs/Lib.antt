@@ -1,0 +1,9 @@
+pub mod Ranking
+pub mod Judging
+pub mod Knowing
+pub mod Products
+pub mod Stepping
+pub mod Cutting
+pub mod Covering
+pub mod Slicing
+pub mod Linking

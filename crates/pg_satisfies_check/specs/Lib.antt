@@ -1,0 +1,4 @@
+pub mod Satisfaction
+pub mod Certificates
+pub mod Laws
+pub mod Mirrors

@@ -1,0 +1,6 @@
+-- Definitions that mirror code. Contracts of private functions cite them; no definition that a reader has to believe does.
+pub mod Known
+pub mod Steps
+pub mod Views
+pub mod Branches
+pub mod Lassos

@@ -1,0 +1,3 @@
+pub mod NodeLists
+pub mod Rows
+pub mod Tries

@@ -1,0 +1,4 @@
+-- Definitions that mirror code. Contracts of private functions cite them; no definition that a reader has to believe does.
+pub mod Growing
+pub mod Alternatives
+pub mod Promises

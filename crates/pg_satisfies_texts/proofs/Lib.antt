@@ -1,0 +1,4 @@
+pub mod Noting
+pub mod Tables
+pub mod Meant
+pub mod Judged
