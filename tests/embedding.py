@@ -311,7 +311,7 @@ def texts():
             yield command, text
     game = b"0 2 1 0,1;\n1 1 0 0,1;\n"
     for command in ("measure", "solve", "solve --any", "check", "replay", "automaton", "means", "game", "synth", "synth --small", "synth --counter",
-                    "verify"):
+                    "verify", "verify --ltl"):
         yield from ((command, text) for text in (b"", b"\n", b"0 0 0 9;\n", game, game + b"--\n", game + b"--\n0 0;\n1 0 1;\n"))
     yield "replay", game + b"--\nworkers 1;\ncentral 1;\nlift 1 1;\ndeliver 1 0;\n"
 

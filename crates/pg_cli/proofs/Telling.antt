@@ -2,12 +2,13 @@
 use Rattle.std.proofs.Common.{◌≡◌, ◌≢◌, ℕ, List, [], ◌++◌, Option, Some, Result, Ok, Err, refl, ap, sym, subst, IfOk, IfErr}
 use Rattle.std.specs.Prelude.{true, false}
 use Rattle.pg_cli_words.specs.declared.command.Command.{Command}
-use Rattle.pg_cli_words.specs.declared.command.Command.TheVariants.{Measure, Solve, SolveAny, Check, Replay, Automaton, Means, Game, Synth, SynthSmall, SynthCounter, Verify}
+use Rattle.pg_cli_words.specs.declared.command.Command.TheVariants.{Measure, Solve, SolveAny, Check, Replay, Automaton, Means, Game, Synth, SynthSmall, SynthCounter, Verify, VerifyFormula}
 use Rattle.pg_cli_command.specs.Measuring.{MapKind}
 use Rattle.pg_cli_command.specs.Answers.{Answers, PrintsBy, RefusesBy}
 use Rattle.pg_cli_command.specs.declared.fault.CliFault.{CliFault}
 use Rattle.pg_cli_command.specs.declared.fault.CliFault.TheVariants as cli
 use Rattle.pg_cli_command.specs.InMemory.{memory_fault, in_memory}
+use Rattle.pg_cli_command.proofs.Listening.{judge_listens}
 
 no_listening : (Kind : MapKind) (command : Command) (input : List ℕ) → RefusesBy Kind command input cli.Listen → ⊥
 no_listening Kind (Measure workers) input why = why.1
@@ -23,6 +24,7 @@ no_listening Kind (SynthSmall workers) input why = why.1
 no_listening Kind (SynthCounter workers) input why = why.1
 no_listening Kind (Verify workers by_place true) input why = why.1
 no_listening Kind (Verify workers by_place false) input why = why.1
+no_listening Kind (VerifyFormula environment) input why = judge_listens why.1.3 why.1.5
 
 -- an answer isn't refused because nothing listens
 pub never_listens : (Kind : MapKind) (command : Command) (input : List ℕ) (old new : Option (List ℕ)) (result : Result (Unit {0}) CliFault)

@@ -22,4 +22,6 @@ pub mod Decided
 pub mod Uncontrolled
 pub mod Told
 pub mod Meant
+pub mod Judged
+pub mod Listening
 mod Common

@@ -1,5 +1,5 @@
--- Why `means` and `automaton` have no answer.
-use Rattle.pg_cli_command.proofs.Common.{List, ℕ, Fails, Parting}
+-- Why `means`, `automaton` and `verify --ltl` have no answer.
+use Rattle.pg_cli_command.proofs.Common.{List, ℕ, Fails, Parting, refl}
 use Rattle.pg_hoa.specs.declared.fault.HoaFault.TheVariants as hoa
 use Rattle.pg_ltl.specs.Texts.{IsRefused}
 use Rattle.pg_ltl.specs.declared.fault.FormulaFault.{FormulaFault}
@@ -8,7 +8,14 @@ use Rattle.pg_means.specs.declared.fault.MeansFault.TheVariants as means
 use Rattle.pg_means_texts.specs.Comparing.{Refuses}
 use Rattle.pg_means_texts.specs.declared.fault.CompareFault.{CompareFault}
 use Rattle.pg_means_texts.specs.declared.fault.CompareFault.TheVariants as compare
-use Rattle.pg_cli_command.specs.Faults.{formula_fault, compare_fault}
+use Rattle.pg_aiger_reader.specs.declared.fault.ReaderFault.TheVariants as reader
+use Rattle.pg_aiger_netlist.specs.declared.fault.NetlistFault.TheVariants as netlist
+use Rattle.pg_satisfies.specs.declared.fault.SatisfiesFault.TheVariants as satisfies
+use Rattle.pg_satisfies_texts.specs.Judging as judging
+use Rattle.pg_satisfies_texts.specs.declared.fault.SatisfyFault.{SatisfyFault}
+use Rattle.pg_satisfies_texts.specs.declared.fault.SatisfyFault.TheVariants as satisfy
+use Rattle.pg_cli_command.specs.Faults.{formula_fault, compare_fault, satisfy_fault}
+use Rattle.pg_cli_command.specs.Satisfying.{RefusesJudge}
 use Rattle.pg_cli_command.specs.Meaning.{RefusesMeans}
 use Rattle.pg_cli_command.specs.Translating.{RefusesAutomaton}
 
@@ -25,3 +32,11 @@ compare_refused Parts first second (compare.Means _) parted why = (first, second
 pub formula_refused : (input : List ℕ) (fault : FormulaFault) → IsRefused input fault → Fails (RefusesAutomaton input) (formula_fault fault)
 formula_refused input formula.OutOfMemory why = tt
 formula_refused input _ why = why
+
+pub judge_refused : (Parts : Parting) (first second : List ℕ) (fault : SatisfyFault) → Parts first second → judging.Refuses first second fault
+    → Fails (RefusesJudge Parts) (satisfy_fault fault)
+judge_refused Parts first second (satisfy.Formula formula.OutOfMemory) parted why = tt
+judge_refused Parts first second (satisfy.Circuit reader.OutOfMemory) parted why = tt
+judge_refused Parts first second (satisfy.Netlist netlist.OutOfMemory) parted why = tt
+judge_refused Parts first second (satisfy.Satisfies satisfies.OutOfMemory) parted why = tt
+judge_refused Parts first second fault parted why = (first, second, parted, fault, why, refl)

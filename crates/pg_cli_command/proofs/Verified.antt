@@ -39,6 +39,8 @@ circuit_refused P bytes reader.OutOfMemory memory told why = memory
 circuit_refused P bytes (reader.Syntax n) memory told why = told (reader.Syntax n) (why.0, why)
 circuit_refused P bytes (reader.NumberTooLarge n) memory told why = told (reader.NumberTooLarge n) (why.0, why)
 circuit_refused P bytes reader.TooLarge memory told why = told reader.TooLarge (why.0, why)
+circuit_refused P bytes reader.TooFewVariables memory told why = told reader.TooFewVariables (why.0, why)
+circuit_refused P bytes reader.OtherVariables memory told why = told reader.OtherVariables (why.0, why)
 circuit_refused P bytes (reader.LeftOut s) memory told why = told (reader.LeftOut s) (why.0, why)
 circuit_refused P bytes (reader.Reset n) memory told why = told (reader.Reset n) (why.0, why)
 

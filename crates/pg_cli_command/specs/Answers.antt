@@ -12,9 +12,10 @@ use Rattle.pg_cli_command.specs.Small.{IsSynthesisedSmall}
 use Rattle.pg_cli_command.specs.Counter.{IsSynthesisedCounter, RefusesCounter}
 use Rattle.pg_cli_command.specs.Refuting.{IsLookedAt, RefusesLook}
 use Rattle.pg_cli_command.specs.Meaning.{IsMeant, RefusesMeans}
+use Rattle.pg_cli_command.specs.Satisfying.{IsJudgedOn, RefusesJudge}
 use Rattle.pg_cli_command.specs.Translating.{IsTranslated, RefusesAutomaton}
 use Rattle.pg_cli_words.specs.declared.command.Command.{Command}
-use Rattle.pg_cli_words.specs.declared.command.Command.TheVariants.{Measure, Solve, SolveAny, Check, Replay, Automaton, Means, Game, Synth, SynthSmall, SynthCounter, Verify}
+use Rattle.pg_cli_words.specs.declared.command.Command.TheVariants.{Measure, Solve, SolveAny, Check, Replay, Automaton, Means, Game, Synth, SynthSmall, SynthCounter, Verify, VerifyFormula}
 use Rattle.pg_cli_command.specs.declared.fault.CliFault.{CliFault}
 use Rattle.pg_cli_command.specs.declared.fault.CliFault.TheVariants.{OutOfMemory, Read, Write, InputTooLong}
 
@@ -39,6 +40,10 @@ meaning_of Kind (SynthCounter workers) input = record { prints = IsSynthesisedCo
 meaning_of Kind (Verify workers by_place environment) input = record {
   prints = IsLookedAt environment (IsParted input) by_place;
   refuses = RefusesLook environment Kind (IsParted input) by_place;
+}
+meaning_of Kind (VerifyFormula environment) input = record {
+  prints = IsJudgedOn (IsParted input) environment;
+  refuses = RefusesJudge (IsParted input);
 }
 
 -- The command prints the output: the input is within the limit, and the output is the answer to it.

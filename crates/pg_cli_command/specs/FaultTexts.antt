@@ -18,6 +18,9 @@ use Rattle.pg_verify.specs.declared.fault.VerifyFault.TheVariants as verify
 use Rattle.pg_ltl.specs.FaultTexts as formula
 use Rattle.pg_means.specs.declared.fault.MeansFault.{MeansFault}
 use Rattle.pg_means.specs.declared.fault.MeansFault.TheVariants as means
+use Rattle.pg_satisfies.specs.declared.fault.SatisfiesFault.{SatisfiesFault}
+use Rattle.pg_satisfies.specs.declared.fault.SatisfiesFault.TheVariants as satisfies
+use Rattle.pg_satisfies_texts.specs.FaultTexts.{name_fault_text}
 use Rattle.pg_cli_command.specs.declared.solver.Untranslated.{Untranslated}
 use Rattle.pg_cli_command.specs.declared.solver.Untranslated.TheVariants as untranslated
 use Rattle.pg_cli_command.specs.declared.fault.CliFault.{CliFault}
@@ -66,6 +69,11 @@ means_text means.OutOfMemory = codes "out of memory"
 means_text means.TooLarge = codes "automaton and formula too large together"
 means_text means.Undecided = codes "undecided"
 
+abbrev pub satisfies_text : SatisfiesFault → List ℕ
+satisfies_text satisfies.OutOfMemory = codes "out of memory"
+satisfies_text satisfies.TooLarge = codes "circuit and formula too large together"
+satisfies_text satisfies.Undecided = codes "undecided"
+
 -- why no automaton was found for a formula
 abbrev pub untranslated_text : Untranslated → List ℕ
 untranslated_text untranslated.OutOfMemory = codes "out of memory"
@@ -90,6 +98,8 @@ fault_text (Circuit fault) = reader.reader_fault_text fault
 fault_text (Tie fault) = reader.tie_fault_text fault
 fault_text (Netlist fault) = netlist_text fault
 fault_text (Verify fault) = verify_text fault
+fault_text (cli.Names fault) = name_fault_text fault
+fault_text (cli.Satisfies fault) = satisfies_text fault
 fault_text (Hearing place) = codes "output " ++ (decimal place ++ codes " depends on an input of the same step")
 fault_text NoCounter = codes "no circuit found that plays the environment"
 fault_text Listen = codes "cannot listen on 127.0.0.1"

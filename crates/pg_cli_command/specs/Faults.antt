@@ -29,6 +29,9 @@ use Rattle.pg_means.specs.declared.fault.MeansFault.{MeansFault}
 use Rattle.pg_means.specs.declared.fault.MeansFault.TheVariants as means
 use Rattle.pg_means_texts.specs.declared.fault.CompareFault.{CompareFault}
 use Rattle.pg_means_texts.specs.declared.fault.CompareFault.TheVariants as compare
+use Rattle.pg_satisfies.specs.declared.fault.SatisfiesFault.TheVariants as satisfies
+use Rattle.pg_satisfies_texts.specs.declared.fault.SatisfyFault.{SatisfyFault}
+use Rattle.pg_satisfies_texts.specs.declared.fault.SatisfyFault.TheVariants as satisfy
 use Rattle.pg_worker.specs.declared.fault.WorkerFault.{WorkerFault}
 use Rattle.pg_worker.specs.declared.fault.WorkerFault.TheVariants as worker
 use Rattle.pg_cli_command.specs.declared.fault.CliFault.TheVariants.{OutOfMemory, Write, Text, Script, World}
@@ -108,6 +111,15 @@ compare_fault (compare.Hoa fault) = hoa_fault fault
 compare_fault (compare.Formula fault) = formula_fault fault
 compare_fault compare.TooManyPropositions = cli.TooManyPropositions
 compare_fault (compare.Means fault) = means_fault fault
+
+-- the faults of a verdict on a formula and a circuit
+abbrev pub satisfy_fault : SatisfyFault → CliFault
+satisfy_fault (satisfy.Formula fault) = formula_fault fault
+satisfy_fault (satisfy.Circuit fault) = circuit_fault fault
+satisfy_fault (satisfy.Netlist fault) = netlist_fault fault
+satisfy_fault (satisfy.Names fault) = cli.Names fault
+satisfy_fault (satisfy.Satisfies satisfies.OutOfMemory) = OutOfMemory
+satisfy_fault (satisfy.Satisfies fault) = cli.Satisfies fault
 
 abbrev pub untranslated_fault : Untranslated → CliFault
 untranslated_fault untranslated.OutOfMemory = OutOfMemory

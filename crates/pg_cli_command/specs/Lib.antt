@@ -20,6 +20,7 @@ pub mod Controllers
 pub mod Small
 pub mod Meaning
 pub mod Translating
+pub mod Satisfying
 pub mod FormulaLaws
 pub mod Counter
 pub mod Mirrors

@@ -1,5 +1,5 @@
 -- What `automaton` prints.
-use Rattle.std.specs.Prelude.{ℕ, List}
+use Rattle.std.specs.Prelude.{ℕ, ◌<◌, List, length}
 use Rattle.pg_ltl.specs.Formulas.{Formula}
 use Rattle.pg_ltl.specs.Texts.{Spelt}
 use Rattle.pg_means.specs.declared.verdict.FormulaVerdict.TheVariants.{Same}
@@ -20,10 +20,11 @@ IsTranslated input output = (names : List (List ℕ)) × IsCompared output input
 abbrev pub IsFormula : List ℕ → Type 0
 IsFormula input = (names : List (List ℕ)) × (f : Formula) × Spelt input names f
 
--- Why an input has no such output: it spells no formula; or it does, and no automaton was found within the limits, or none that is shown to
+-- Why an input has no such output: it spells no formula; or its formula has too many propositions; or no automaton was found within the limits, or none that is shown to
 -- be right.
 abbrev pub RefusesAutomaton : List ℕ → CliFault → Type 0
 RefusesAutomaton input (cli.Formula fault) = IsNoFormula input fault
+RefusesAutomaton input cli.TooManyPropositions = (names : List (List ℕ)) × (f : Formula) × Spelt input names f × (16 < length names)
 RefusesAutomaton input (Untranslated TooManyStates) = IsFormula input
 RefusesAutomaton input (Untranslated TooManySteps) = IsFormula input
 RefusesAutomaton input (Means TooLarge) = IsFormula input

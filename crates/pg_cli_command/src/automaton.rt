@@ -44,6 +44,9 @@ fn is_shown(alloc: Global, automaton: &[u8], formula: &[u8]) -> Result<bool, Cli
     }
 }
 
+/// The most propositions that an automaton may have.
+const MOST_PROPOSITIONS: usize = 16;
+
 /// Returns an automaton that accepts exactly the words that satisfy the formula that a text spells. The solver proposes it, and it is
 /// returned only if it is shown to be right. If it isn't, this fails with `Unshown`, or with `Means` if automaton and formula are too large
 /// together.
@@ -57,6 +60,9 @@ pub(crate) fn automaton<F: Solver>(
     ensures refused { IfErr result (Fails (RefusesAutomaton text.items)) }
 {
     let (names, formula) = read_formula(alloc, &text)?;
+    if names.len() > MOST_PROPOSITIONS {
+        return Err(CliFault::TooManyPropositions);
+    }
     let automaton = solver.translate(alloc, &formula, &names)?;
     let is_right = is_shown(alloc, &automaton, &text)?;
     if is_right {

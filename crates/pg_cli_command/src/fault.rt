@@ -5,7 +5,7 @@ ghost use Rattle.std.specs.Io.KnownBytes.{Appends};
 ghost use Rattle.pg_cli_command.specs.Faults.{text_fault, script_fault, event_fault, check_fault};
 ghost use Rattle.pg_cli_command.specs.Faults.{hoa_fault, synth_fault, aiger_fault, worker_fault, status_of};
 ghost use Rattle.pg_cli_command.specs.Faults.{circuit_fault, tie_fault, netlist_fault, verify_fault};
-ghost use Rattle.pg_cli_command.specs.Faults.{formula_fault, means_fault, compare_fault, untranslated_fault};
+ghost use Rattle.pg_cli_command.specs.Faults.{formula_fault, means_fault, compare_fault, untranslated_fault, satisfy_fault};
 ghost use Rattle.pg_cli_command.specs.FaultTexts.{fault_text, fault_line};
 ghost use Rattle.pg_cli_command.specs.declared.fault.CliFault.TheVariants as cli;
 
@@ -17,6 +17,7 @@ use pg_check::CheckFault;
 use pg_hoa::HoaFault;
 use pg_ltl::FormulaFault;
 use pg_means_texts::{CompareFault, MeansFault};
+use pg_satisfies_texts::{NameFault, SatisfiesFault, SatisfyFault};
 use pg_synth::SynthFault;
 use pg_text::TextFault;
 use pg_verify::VerifyFault;
@@ -81,7 +82,11 @@ pub enum CliFault {
     Worker(WorkerFault),
     /// A text spells no formula; never `OutOfMemory`.
     Formula(FormulaFault),
-    /// An automaton and a formula have more than 16 propositions together.
+    /// A name of a formula means no signal of a circuit.
+    Names(NameFault),
+    /// There is no verdict on a circuit and a formula; never `OutOfMemory`.
+    Satisfies(SatisfiesFault),
+    /// An automaton and a formula have more than 16 propositions together, or the formula of an automaton has.
     TooManyPropositions,
     /// There is no verdict on an automaton and a formula; never `OutOfMemory`.
     Means(MeansFault),
@@ -161,6 +166,12 @@ impl fmt::Display for CliFault {
                 WorkerFault::Wire(_) => f.write_str("worker fault 5"),
             },
             CliFault::Formula(fault) => write!(f, "{fault}"),
+            CliFault::Names(fault) => write!(f, "{fault}"),
+            CliFault::Satisfies(fault) => match fault {
+                SatisfiesFault::OutOfMemory => f.write_str("out of memory"),
+                SatisfiesFault::TooLarge => f.write_str("circuit and formula too large together"),
+                SatisfiesFault::Undecided => f.write_str("undecided"),
+            },
             CliFault::TooManyPropositions => f.write_str("more than 16 propositions"),
             CliFault::Means(fault) => match fault {
                 MeansFault::OutOfMemory => f.write_str("out of memory"),
@@ -364,6 +375,21 @@ impl From<CompareFault> for CliFault {
             CompareFault::Formula(fault) => CliFault::from(fault),
             CompareFault::TooManyPropositions => CliFault::TooManyPropositions,
             CompareFault::Means(fault) => CliFault::from(fault),
+        }
+    }
+}
+
+impl From<SatisfyFault> for CliFault {
+    ghost from_gives = { λ fault e. e ≡ satisfy_fault fault };
+
+    fn from(fault: SatisfyFault) -> CliFault {
+        match fault {
+            SatisfyFault::Formula(fault) => CliFault::from(fault),
+            SatisfyFault::Circuit(fault) => CliFault::from(fault),
+            SatisfyFault::Names(fault) => CliFault::Names(fault),
+            SatisfyFault::Netlist(fault) => CliFault::from(fault),
+            SatisfyFault::Satisfies(SatisfiesFault::OutOfMemory) => CliFault::OutOfMemory,
+            SatisfyFault::Satisfies(fault) => CliFault::Satisfies(fault),
         }
     }
 }

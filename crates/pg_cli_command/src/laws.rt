@@ -7,6 +7,7 @@ ghost use Rattle.pg_cli_command.specs.Small.{SmallAccepted};
 ghost use Rattle.pg_cli_command.specs.Counter.{CounterRefutes};
 ghost use Rattle.pg_cli_command.specs.Verdicts.{VerifyDecides};
 ghost use Rattle.pg_cli_command.specs.FormulaLaws.{MeansDecides, ControllerSatisfies, NoneSatisfies};
+ghost use Rattle.pg_cli_command.specs.Satisfying.{SatisfiesDecides};
 ghost use Rattle.pg_cli_command.specs.Laws.{PrintedWinnersWin, AnyPrintedWinnersWin, LeastIsClosed, OneAnswer};
 
 /// The output of `solve` for a game spells a solution of the game, whichever closed maps are found. Each printed winner wins every endless
@@ -167,4 +168,16 @@ pub fn none_satisfies()
     pg_hoa::laws::one_reading();
     pg_hoa::laws::shape_tells();
     no_controller();
+}
+
+/// The texts of `verify --ltl` spell one formula and one circuit, which has one run for each endless input word. The output is `ACCEPTED` if
+/// and only if every run of the circuit satisfies the formula; for a circuit that plays the environment it is `REFUTES` if and only if no
+/// run does.
+pub fn satisfies_decides()
+    ensures { SatisfiesDecides }
+{
+    pg_ltl::laws::one_reading();
+    pg_aiger_reader::laws::one_reading();
+    pg_aiger_netlist::laws::one_run();
+    pg_satisfies::laws::satisfies_decides();
 }

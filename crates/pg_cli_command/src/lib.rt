@@ -24,6 +24,7 @@ mod solve;
 mod solver;
 mod synth;
 mod verify;
+mod verify_formula;
 pub mod winners;
 mod world_output;
 
@@ -33,6 +34,7 @@ pub use memory::in_memory;
 pub use parts::part_texts;
 pub use pg_cli_words::Command;
 pub use program::{
-    check_texts, means_texts, refute_texts, replay_texts, run_by, verify_texts, write_answer_by,
+    check_texts, means_texts, refute_texts, replay_texts, run_by, verify_formula_texts,
+    verify_texts, write_answer_by,
 };
 pub use solver::{ProposedCircuit, Solver, Untranslated};

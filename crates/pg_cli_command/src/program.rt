@@ -10,6 +10,7 @@ ghost use Rattle.pg_cli_command.specs.Replaying.{IsReplayed, RefusesReplay};
 ghost use Rattle.pg_cli_command.specs.Refuting.{IsRefuted, RefusesRefute};
 ghost use Rattle.pg_cli_command.specs.Verifying.{IsVerified, RefusesVerify};
 ghost use Rattle.pg_cli_command.specs.Meaning.{IsMeant, RefusesMeans};
+ghost use Rattle.pg_cli_command.specs.Satisfying.{IsJudgedOn, RefusesJudge};
 ghost use Rattle.pg_cli_command.specs.Answers.{Answers};
 ghost use Rattle.pg_cli_words.specs.Commands.{workers_of};
 
@@ -31,6 +32,7 @@ use crate::solve::{solve, solve_any};
 use crate::solver::Solver;
 use crate::synth::synth;
 use crate::verify::verify;
+use crate::verify_formula::verify_formula;
 use pg_cli_words::Command;
 use std::alloc::Global;
 use std::io::{Read, Write};
@@ -92,6 +94,12 @@ pub fn write_answer_by<F: Solver, W: Write>(
             environment,
             ..
         } => write_look(alloc, text, by_place, environment, solver, writer),
+        Command::VerifyFormula { environment } => {
+            print(
+                verify_formula(alloc, Texts::Joined(text), environment),
+                writer,
+            )
+        }
     }
 }
 
@@ -146,6 +154,27 @@ pub fn refute_texts<F: Solver>(
     in_memory(written, output)
 }
 
+/// Returns what `verify --ltl` prints for a formula and a circuit, given as two texts; they need no line `--`. The circuit plays the
+/// environment if `environment` is set, and otherwise the controller. Fails with `Formula` for the first text, `Circuit` for the second,
+/// `Names` for a name that means no signal of the circuit, `Netlist`, `Satisfies`, and `OutOfMemory`.
+pub fn verify_formula_texts(
+    alloc: Global,
+    environment: bool,
+    first: Vec<u8>,
+    second: Vec<u8>,
+) -> Result<Vec<u8>, CliFault>
+    ensures answer { IfOk result (λ output. IsJudgedOn (AreApart first.items second.items) environment output.items) }
+    ensures refused { IfErr result (λ fault.
+        (fault ≡ CliFault.OutOfMemory) ⊎ RefusesJudge (AreApart first.items second.items) fault) }
+{
+    let mut output = Vec::new(alloc);
+    let written = print(
+        verify_formula(alloc, Texts::Apart(first, second), environment),
+        &mut output,
+    );
+    in_memory(written, output)
+}
+
 /// Returns what `means` prints for an automaton and a formula, given as two texts; they need no line `--`. Fails with `Hoa` for the first
 /// text, `Formula` for the second, `TooManyPropositions`, `Means`, and `OutOfMemory`.
 pub fn means_texts(alloc: Global, first: Vec<u8>, second: Vec<u8>) -> Result<Vec<u8>, CliFault>
@@ -184,7 +213,9 @@ pub fn replay_texts<W: Write>(
 /// most the first one over the limit. `NoSeparator`: the command reads two texts, and there is no line `--` between
 /// them. `Text`, for a game or a solution, the first text's fault before the second's; `Script`, for a second text that
 /// is no script for the game; `Hoa`, for an automaton; for `verify`, then `Circuit`, `Tie`, `Netlist` and `Verify`; `Formula`, for a
-/// formula; then, for `means`, `TooManyPropositions` and `Means`, and for `automaton` `Untranslated`, `Means` and `Unshown`.
+/// formula; then, for `means`, `TooManyPropositions` and `Means`, for `automaton` `TooManyPropositions`, `Untranslated`, `Means` and
+/// `Unshown`, and for `verify --ltl` `Circuit`, `Names`,
+/// `Netlist` and `Satisfies`.
 /// `Undecided`, from `solve`, `synth` and `verify`. `World`, from `replay`: the first event that the world refuses.
 /// `Synth`, from `game`, `synth` and `verify`: the game of the automaton is too large. `Aiger`, from `synth`: the
 /// circuit of the controller is too large. `Write`: part of the answer may have been written. `OutOfMemory` can come at

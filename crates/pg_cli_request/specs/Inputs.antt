@@ -13,9 +13,10 @@ use Rattle.pg_cli_command.specs.Checking.{IsChecked}
 use Rattle.pg_cli_command.specs.Replaying.{IsReplayed}
 use Rattle.pg_cli_command.specs.Refuting.{IsLookedAt}
 use Rattle.pg_cli_command.specs.Meaning.{IsMeant}
+use Rattle.pg_cli_command.specs.Satisfying.{IsJudgedOn}
 use Rattle.pg_cli_command.specs.Answers.{PrintsBy}
 use Rattle.pg_cli_request.specs.declared.pair.PairCommand.{PairCommand}
-use Rattle.pg_cli_request.specs.declared.pair.PairCommand.TheVariants.{Check, Replay, Means, Verify}
+use Rattle.pg_cli_request.specs.declared.pair.PairCommand.TheVariants.{Check, Replay, Means, Verify, VerifyFormula}
 
 -- the command as one that is given two texts
 abbrev pub pair_of : Command → Option PairCommand
@@ -23,6 +24,7 @@ pair_of commands.Check = Some Check
 pair_of commands.Replay = Some Replay
 pair_of commands.Means = Some Means
 pair_of (commands.Verify workers by_place environment) = Some (Verify by_place environment)
+pair_of (commands.VerifyFormula environment) = Some (VerifyFormula environment)
 pair_of command = None
 
 -- the input of a command: one text, or two texts, each by itself
@@ -70,6 +72,7 @@ PrintsOfPair Check first second output = IsChecked (AreApart first second) outpu
 PrintsOfPair Replay first second output = IsReplayed (AreApart first second) output
 PrintsOfPair Means first second output = IsMeant (AreApart first second) output
 PrintsOfPair (Verify by_place environment) first second output = IsLookedAt environment (AreApart first second) by_place output
+PrintsOfPair (VerifyFormula environment) first second output = IsJudgedOn (AreApart first second) environment output
 
 -- in the automaton that `automaton` prints, the controller sets the outputs that are named
 abbrev pub IsHeaded : Option (List ℕ) → Command → List ℕ → List ℕ → Type 0

@@ -12,6 +12,7 @@ use Rattle.pg_cli_command.specs.Checking.{RefusesCheck}
 use Rattle.pg_cli_command.specs.Replaying.{RefusesReplay}
 use Rattle.pg_cli_command.specs.Refuting.{RefusesLook}
 use Rattle.pg_cli_command.specs.Meaning.{RefusesMeans}
+use Rattle.pg_cli_command.specs.Satisfying.{RefusesJudge}
 use Rattle.pg_cli_command.specs.Answers.{meaning_of, PrintsBy}
 use Rattle.pg_cli_command.specs.declared.fault.CliFault.{CliFault}
 use Rattle.pg_cli_command.specs.declared.fault.CliFault.TheVariants as cli
@@ -19,7 +20,7 @@ use Rattle.pg_cli.specs.Serving.{RefusesWork}
 use Rattle.pg_cli_request.specs.declared.fault.Fault.{Fault}
 use Rattle.pg_cli_request.specs.declared.fault.Fault.TheVariants.{Open, Read, Controlled, NoProposition, Cli}
 use Rattle.pg_cli_request.specs.declared.pair.PairCommand.{PairCommand}
-use Rattle.pg_cli_request.specs.declared.pair.PairCommand.TheVariants.{Check, Replay, Means, Verify}
+use Rattle.pg_cli_request.specs.declared.pair.PairCommand.TheVariants.{Check, Replay, Means, Verify, VerifyFormula}
 use Rattle.pg_cli_request.specs.Inputs.{Input, Whole, Apart, pair_of, joined_length, names_in, kind_of, IsRead, IsNamed}
 
 -- programs work for the command, and it can't listen on any port for them
@@ -99,6 +100,7 @@ RefusesPair Check first second fault = RefusesCheck (AreApart first second) faul
 RefusesPair Replay first second fault = RefusesReplay (AreApart first second) fault
 RefusesPair Means first second fault = RefusesMeans (AreApart first second) fault
 RefusesPair (Verify by_place environment) first second fault = RefusesLook environment IsMeasureOf (AreApart first second) by_place fault
+RefusesPair (VerifyFormula environment) first second fault = RefusesJudge (AreApart first second) fault
 
 -- why a command refuses its input for its contents
 abbrev pub RefusesInput : MapKind → Command → Input → CliFault → Type 0

@@ -18,7 +18,7 @@ use crate::pair::PairCommand;
 use crate::texts::FileTexts;
 use pg_cli::{
     CliFault, Command, Invocation, MOST_BYTES, Programs, check_texts, means_texts, replay_texts,
-    verify_texts, work, write_answer,
+    verify_formula_texts, verify_texts, work, write_answer,
 };
 use pg_cli_statistics::{CountedTops, Figures, Kept, Notes, Stopwatch};
 use pg_cli_words::Request;
@@ -178,6 +178,10 @@ fn write_pair<R: Reach + AllocGlobal, W: Write>(
             environment,
         } => {
             let answer = verify_texts(alloc, by_place, environment, first, second)?;
+            write_whole(rt, command, &answer, figures, output)
+        }
+        PairCommand::VerifyFormula { environment } => {
+            let answer = verify_formula_texts(alloc, environment, first, second)?;
             write_whole(rt, command, &answer, figures, output)
         }
         PairCommand::Replay => {

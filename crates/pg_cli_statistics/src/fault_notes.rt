@@ -1,7 +1,7 @@
 //! Notes on a fault, after its line: where it is in a file, and what may help.
 
 use crate::headers::{Limit, limit_of, read_headers};
-use crate::hints::{first_kind, is_written_formula, on_syntax, second_kind};
+use crate::hints::{Kind, first_kind, is_written_formula, on_syntax, second_kind};
 use crate::kept::{Kept, KeptText};
 use pg_aiger_reader::ReaderFault;
 use pg_cli_command::{CliFault, Untranslated};
@@ -108,7 +108,7 @@ fn offset_of(
             Some((false, *offset))
         }
         CliFault::Formula(FormulaFault::Syntax(offset)) => {
-            Some((matches!(command, Command::Automaton), *offset))
+            Some((matches!(first_kind(command), Kind::Formula), *offset))
         }
         _ => None,
     }
@@ -135,10 +135,13 @@ fn plain_hint(command: Command, fault: &CliFault) -> Option<Hint> {
             "the search reached its limit of steps; try a smaller formula"
         }
         CliFault::Means(MeansFault::TooLarge) => {
-            "the product of automaton and formula has at most 16777216 edges"
+            "their product has at most 16777216 edges, and 33554432 sets of formulas times letters"
         }
         CliFault::Circuit(ReaderFault::TooLarge) => {
             "a circuit has at most 16777216 variables and as many outputs"
+        }
+        CliFault::Circuit(ReaderFault::Reset(_)) => {
+            "write_aiger -zinit of Yosys makes each latch start at 0"
         }
         _ => return None,
     };

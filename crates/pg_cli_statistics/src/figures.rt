@@ -135,7 +135,7 @@ fn size_in(alloc: Global, text: &[u8]) -> Option<Size> {
 fn both_texts(command: Command, text: &[u8]) -> (&[u8], &[u8]) {
     if !matches!(
         command,
-        Command::Check | Command::Means | Command::Verify { .. }
+        Command::Check | Command::Means | Command::Verify { .. } | Command::VerifyFormula { .. }
     ) {
         return (text, &[]);
     }
@@ -343,6 +343,7 @@ impl Counted {
                 counted.formula = Vec::from_slice(alloc, first).ok();
                 counted.operators = operators_in(alloc, first);
             }
+            Command::VerifyFormula { .. } => counted.operators = operators_in(alloc, first),
             Command::Means => {
                 counted.operators = operators_in(alloc, second);
                 counted.states = states_in(first);
@@ -407,7 +408,7 @@ impl Figures {
             size,
         } = Counted::of(rt.alloc(), command, first, second);
         let parts = match command {
-            Command::Verify { .. } => parts_in(second),
+            Command::Verify { .. } | Command::VerifyFormula { .. } => parts_in(second),
             _ => None,
         };
         watch.lap(rt);

@@ -1,5 +1,6 @@
 //! Reads the headers of an automaton: its propositions and, if it is too large, the limit that it exceeds.
 
+use memchr::memmem;
 use pg_hoa_syntax::{Syntax, read_syntax};
 use std::alloc::Global;
 
@@ -32,7 +33,7 @@ pub(crate) enum Limit {
 
 /// Returns the headers of an automaton, with the mark after them, or None if there is no mark.
 fn headers(text: &[u8]) -> Option<&[u8]> {
-    let place = text.windows(BODY.len()).position(|window| window == BODY)?;
+    let place = memmem::find(text, BODY)?;
     text.get(..place.saturating_add(BODY.len()))
 }
 

@@ -112,7 +112,7 @@ fn another(seen: Kind) -> &'static str {
 /// Returns the kind of a command's first text.
 pub(crate) fn first_kind(command: Command) -> Kind {
     match command {
-        Command::Automaton => Kind::Formula,
+        Command::Automaton | Command::VerifyFormula { .. } => Kind::Formula,
         Command::Means
         | Command::Game
         | Command::Synth { .. }
@@ -126,7 +126,7 @@ pub(crate) fn first_kind(command: Command) -> Kind {
 /// Returns the kind of the second text of a command that reads two.
 pub(crate) fn second_kind(command: Command) -> Kind {
     match command {
-        Command::Verify { .. } => Kind::Circuit,
+        Command::Verify { .. } | Command::VerifyFormula { .. } => Kind::Circuit,
         Command::Means => Kind::Formula,
         Command::Replay => Kind::Script,
         _ => Kind::Solution,
@@ -192,15 +192,11 @@ fn other_than(alloc: Global, text: &[u8], wanted: Kind) -> Option<&'static str> 
     }
 }
 
-/// Returns the hint for a circuit that ends too early, or whose lines in ASCII don't end with a newline alone.
+/// Returns the hint for a circuit that ends too early.
 fn on_circuit(text: &[u8], offset: usize) -> Option<&'static str> {
-    let rest = text.get(offset..)?;
-    match (text.starts_with(b"aag"), rest) {
-        (_, []) => Some(
+    match text.get(offset..)? {
+        [] => Some(
             "the text ends inside a circuit; each line ends with a newline, the last one too",
-        ),
-        (true, [b'\r', b'\n', ..]) => Some(
-            "lines end with a newline alone here; tr -d '\\r' removes the carriage returns",
         ),
         _ => None,
     }

@@ -1,5 +1,6 @@
 //! The part of a command's input that is kept for notes on its fault.
 
+use memchr::memmem;
 use pg_cli_words::{Command, STANDARD_INPUT};
 use std::alloc::{AllocError, Global};
 
@@ -76,9 +77,7 @@ fn name_at<'a>(files: &[&'a str], place: usize) -> Option<&'a str> {
 
 /// Returns the two texts of one input, if there is a line `--` between them.
 pub(crate) fn parted(input: &[u8]) -> Option<(&[u8], &[u8])> {
-    let place = input
-        .windows(SEPARATOR.len())
-        .position(|window| window == SEPARATOR)?;
+    let place = memmem::find(input, SEPARATOR)?;
     let first = input.get(..place.saturating_add(1))?;
     Some((first, input.get(place.saturating_add(SEPARATOR.len())..)?))
 }
@@ -131,10 +130,10 @@ impl<'a> Kept<'a> {
     }
 
     fn takes_two(&self) -> bool {
-        matches!(
-            self.command,
-            Some(Command::Check | Command::Replay | Command::Means | Command::Verify { .. })
-        )
+        match self.command {
+            Some(command) => command.files() == 2,
+            None => false,
+        }
     }
 
     /// Returns the first text that the command reads, and the second text if the command reads two and both are kept. If one input holds

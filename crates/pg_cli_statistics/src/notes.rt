@@ -69,6 +69,7 @@ impl Notes {
 fn files_of(command: Command) -> &'static str {
     match command {
         Command::Verify { .. } => "AUTOMATON and CIRCUIT",
+        Command::VerifyFormula { .. } => "FORMULA and CIRCUIT",
         Command::Means => "AUTOMATON and FORMULA",
         Command::Replay => "GAME and SCRIPT",
         _ => "GAME and SOLUTION",

@@ -1,7 +1,7 @@
 -- The names of commands, and how many workers they have.
 use Rattle.std.specs.Prelude.{ℕ, List, Option, Some, None, codes}
 use Rattle.pg_cli_words.specs.declared.command.Command.{Command}
-use Rattle.pg_cli_words.specs.declared.command.Command.TheVariants.{Measure, Solve, SolveAny, Check, Replay, Automaton, Means, Game, Synth, SynthSmall, SynthCounter, Verify}
+use Rattle.pg_cli_words.specs.declared.command.Command.TheVariants.{Measure, Solve, SolveAny, Check, Replay, Automaton, Means, Game, Synth, SynthSmall, SynthCounter, Verify, VerifyFormula}
 
 -- the word that names a command
 abbrev pub command_name : Command → List ℕ
@@ -17,6 +17,7 @@ command_name (Synth workers) = codes "synth"
 command_name (SynthSmall workers) = codes "synth"
 command_name (SynthCounter workers) = codes "synth"
 command_name (Verify workers by_place environment) = codes "verify"
+command_name (VerifyFormula environment) = codes "verify"
 
 -- how many workers solve for a command; None if it solves nothing
 abbrev pub workers_of : Command → Option ℕ
@@ -32,3 +33,4 @@ workers_of (Synth workers) = Some workers
 workers_of (SynthSmall workers) = Some workers
 workers_of (SynthCounter workers) = Some workers
 workers_of (Verify workers by_place environment) = Some workers
+workers_of (VerifyFormula environment) = None

@@ -3,7 +3,7 @@ use Rattle.std.specs.Prelude.{◌≡◌, ℕ, Bool, true, false, if◌then◌els
 use Rattle.std.specs.List.{list_any, starts_with}
 use Rattle.std.specs.Str.{bytes_eq}
 use Rattle.pg_cli_words.specs.declared.command.Command.{Command}
-use Rattle.pg_cli_words.specs.declared.command.Command.TheVariants.{Measure, Solve, SolveAny, Check, Replay, Automaton, Means, Game, Synth, SynthSmall, SynthCounter, Verify}
+use Rattle.pg_cli_words.specs.declared.command.Command.TheVariants.{Measure, Solve, SolveAny, Check, Replay, Automaton, Means, Game, Synth, SynthSmall, SynthCounter, Verify, VerifyFormula}
 use Rattle.pg_cli_words.specs.Commands.{command_name}
 
 -- how many files a command takes
@@ -20,6 +20,7 @@ files_of (Synth workers) = 1
 files_of (SynthSmall workers) = 1
 files_of (SynthCounter workers) = 1
 files_of (Verify workers by_place environment) = 2
+files_of (VerifyFormula environment) = 2
 
 -- the word is an option whose value is the next word
 abbrev pub takes_value : List ℕ → Bool

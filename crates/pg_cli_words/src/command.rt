@@ -47,6 +47,12 @@ pub enum Command {
         by_place: bool,
         environment: bool,
     },
+    /// Prints whether each run of a circuit satisfies a formula, and if not, the inputs of a run that doesn't. If `environment` is set,
+    /// prints whether a circuit that plays the environment refutes the formula: whether each run of it satisfies the negation, and
+    /// otherwise what the controller does on a run that satisfies the formula.
+    VerifyFormula {
+        environment: bool,
+    },
 }
 
 impl Command {
@@ -90,7 +96,7 @@ impl Command {
             Command::Game => "game",
             Command::Synth { .. } | Command::SynthSmall { .. } | Command::SynthCounter { .. } =>
                 "synth",
-            Command::Verify { .. } => "verify",
+            Command::Verify { .. } | Command::VerifyFormula { .. } => "verify",
         }
     }
 
@@ -110,7 +116,8 @@ impl Command {
             | Command::Replay
             | Command::Automaton
             | Command::Means
-            | Command::Game => None,
+            | Command::Game
+            | Command::VerifyFormula { .. } => None,
         }
     }
 

@@ -13,8 +13,8 @@ pub const STANDARD_INPUT: &str = "-";
 impl Command {
     ghost use Rattle.pg_cli_words.specs.Files.{files_of};
 
-    /// Returns the number of files that the command takes: one for a game, a formula or an automaton; two for a game or an automaton and
-    /// the text that belongs to it.
+    /// Returns the number of files that the command takes: one for a game, a formula or an automaton; two for a game, an automaton or a
+    /// formula and the text that belongs to it.
     pub fn files(self) -> usize
         ensures { result ≡ files_of self }
     {
@@ -27,7 +27,11 @@ impl Command {
             | Command::Synth { .. }
             | Command::SynthSmall { .. }
             | Command::SynthCounter { .. } => 1,
-            Command::Check | Command::Replay | Command::Means | Command::Verify { .. } => 2,
+            Command::Check
+            | Command::Replay
+            | Command::Means
+            | Command::Verify { .. }
+            | Command::VerifyFormula { .. } => 2,
         }
     }
 }
@@ -116,6 +120,12 @@ pub fn lacks_file(alloc: Global, words: &[String]) -> Result<Option<Command>, Al
     };
     let Some(command) = Command::named(name.as_str(), 0) else {
         return Ok(None);
+    };
+    let command = match command {
+        Command::Verify { .. } if behind.iter().any(|word| word.as_str() == "--ltl") => {
+            Command::VerifyFormula { environment: false }
+        }
+        _ => command,
     };
     let parted = part(alloc, Vec::new(alloc), behind)?;
     let is_lacking = command.files() == 2 && parted.files.len() == 1;

@@ -58,6 +58,9 @@ const BY_PLACE: &str = "by-place";
 /// The option that asks about a circuit that plays the environment.
 const ENVIRONMENT: &str = "environment";
 
+/// The option that asks about a formula.
+const LTL: &str = "ltl";
+
 /// The option that names the outputs of an automaton.
 const OUTS: &str = "outs";
 
@@ -97,17 +100,146 @@ Exit status:
 
 Example: parsolve solve examples/two.pg";
 
-/// The help of a command: its line in the list of commands, its usage, and the text after the options.
+/// What stands after an option.
+#[derive(Clone, Copy)]
+enum OptionValue {
+    /// Nothing.
+    Nothing,
+    /// A text, which the help calls by this name.
+    Text(&'static str),
+    /// A number of workers, from 0 to 16; without the option there are 2.
+    Workers,
+    /// A port, from 1 to 65535; the option must be there.
+    Port,
+}
+
+/// An option of a command: its name, what stands after it, its help, and the names of the options that it can't stand beside.
+#[derive(Clone, Copy)]
+struct CliOption {
+    name: &'static str,
+    value: OptionValue,
+    help: &'static str,
+    conflicts: &'static [&'static str],
+}
+
+const WORKERS_OPTION: CliOption = CliOption {
+    name: WORKERS,
+    value: OptionValue::Workers,
+    help: "How many workers solve the game, from 0 to 16; the answer is the same",
+    conflicts: &[],
+};
+
+const APART_OPTION: CliOption = CliOption {
+    name: APART,
+    value: OptionValue::Text("PATH"),
+    help: "Start each worker as the program PATH, which must be this program; the answer is the same",
+    conflicts: &[],
+};
+
+const ANY_OPTION: CliOption = CliOption {
+    name: ANY,
+    value: OptionValue::Nothing,
+    help: "Print any winning strategy, found in less time; the winners are the same",
+    conflicts: &[WORKERS, APART],
+};
+
+const SMALL_OPTION: CliOption = CliOption {
+    name: SMALL,
+    value: OptionValue::Nothing,
+    help: "Print a small circuit, found in more time; every run of it is accepted too",
+    conflicts: &[WORKERS, APART],
+};
+
+const COUNTER_OPTION: CliOption = CliOption {
+    name: COUNTER,
+    value: OptionValue::Nothing,
+    help: "If there is no controller, print a circuit of the environment that shows why",
+    conflicts: &[WORKERS, APART, SMALL],
+};
+
+const BY_PLACE_OPTION: CliOption = CliOption {
+    name: BY_PLACE,
+    value: OptionValue::Nothing,
+    help: "Match the circuit's inputs and outputs to the propositions by order, not by name",
+    conflicts: &[],
+};
+
+const ENVIRONMENT_OPTION: CliOption = CliOption {
+    name: ENVIRONMENT,
+    value: OptionValue::Nothing,
+    help: "Ask whether a circuit that plays the environment keeps every controller from success",
+    conflicts: &[],
+};
+
+const LTL_OPTION: CliOption = CliOption {
+    name: LTL,
+    value: OptionValue::Nothing,
+    help: "Ask whether every run of the circuit satisfies a formula, the first input, in place of an automaton",
+    conflicts: &[BY_PLACE, OUTS],
+};
+
+const OUTS_OPTION: CliOption = CliOption {
+    name: OUTS,
+    value: OptionValue::Text("NAMES"),
+    help: "The propositions that the controller sets, separated by commas, in place of the header; blanks around them don't count",
+    conflicts: &[],
+};
+
+const STATS_OPTION: CliOption = CliOption {
+    name: STATS,
+    value: OptionValue::Nothing,
+    help: "Print counts and seconds on the error stream, after the answer",
+    conflicts: &[],
+};
+
+const JSON_OPTION: CliOption = CliOption {
+    name: JSON,
+    value: OptionValue::Nothing,
+    help: "Print counts and seconds as one JSON object on the error stream, after the answer",
+    conflicts: &[],
+};
+
+const CHECK_STATUS_OPTION: CliOption = CliOption {
+    name: STATUS,
+    value: OptionValue::Nothing,
+    help: "End with status 0 for `WINS`, and 10 for `LEAVES` and `CYCLE`",
+    conflicts: &[],
+};
+
+const MEANS_STATUS_OPTION: CliOption = CliOption {
+    name: STATUS,
+    value: OptionValue::Nothing,
+    help: "End with status 0 for `SAME`, and 10 for `DIFFERS`",
+    conflicts: &[],
+};
+
+const VERIFY_STATUS_OPTION: CliOption = CliOption {
+    name: STATUS,
+    value: OptionValue::Nothing,
+    help: "End with status 0 for `ACCEPTED` and `REFUTES`, and 10 for other answers",
+    conflicts: &[],
+};
+
+const PORT_OPTION: CliOption = CliOption {
+    name: PORT,
+    value: OptionValue::Port,
+    help: "The port of 127.0.0.1 to connect to, from 1 to 65535",
+    conflicts: &[],
+};
+
+/// The help of a command: its line in the list of commands, its usage, its options in their order, and the text after them.
 #[derive(Clone, Copy)]
 struct Help {
     about: &'static str,
     usage: &'static str,
+    options: &'static [CliOption],
     more: &'static str,
 }
 
 const MEASURE: Help = Help {
     about: "Prints the least progress measure of a game",
     usage: "parsolve measure [OPTIONS] [GAME]",
+    options: &[WORKERS_OPTION, APART_OPTION, STATS_OPTION, JSON_OPTION],
     more: "\
 Input: a parity game in PGSolver's format, such as `parity 1; 0 1 0 0,1; 1 2 1 0;`, from the file GAME or from standard
 input
@@ -122,6 +254,13 @@ prints `0 1;` and `1 0;`, each on a line.",
 const SOLVE: Help = Help {
     about: "Prints the winner of each vertex of a game, and a winning strategy",
     usage: "parsolve solve [OPTIONS] [GAME]",
+    options: &[
+        WORKERS_OPTION,
+        APART_OPTION,
+        ANY_OPTION,
+        STATS_OPTION,
+        JSON_OPTION,
+    ],
     more: "\
 Input: a parity game in PGSolver's format, such as `parity 1; 0 1 0 0,1; 1 2 1 0;`, from the file GAME or from standard
 input
@@ -136,6 +275,7 @@ prints `paritysol 1;`, `0 0 1;` and `1 0;`, each on a line.",
 const CHECK: Help = Help {
     about: "Prints whether a solution of a game is sound",
     usage: "parsolve check [OPTIONS] [GAME SOLUTION]",
+    options: &[CHECK_STATUS_OPTION, STATS_OPTION, JSON_OPTION],
     more: "\
 Input: a parity game and a solution of it, both in PGSolver's format, from the files GAME and SOLUTION, or from standard
 input with a line `--` between them
@@ -151,6 +291,7 @@ prints `WINS`.",
 const REPLAY: Help = Help {
     about: "Prints what workers compute for a game under a script of lifts, deliveries and restarts",
     usage: "parsolve replay [GAME SCRIPT]",
+    options: &[],
     more: "\
 Input: a parity game in PGSolver's format and a script, from the files GAME and SCRIPT, or from standard input with a line
 `--` between them. The script:
@@ -172,6 +313,7 @@ prints `update 0 0 1;`, `replica 0 taken 0;`, `0 1;`, `1 0;`, `replica 1 taken 0
 const AUTOMATON: Help = Help {
     about: "Prints an automaton that accepts exactly the words that satisfy a formula",
     usage: "parsolve automaton [OPTIONS] [FORMULA]",
+    options: &[OUTS_OPTION, STATS_OPTION, JSON_OPTION],
     more: "\
 Input: a formula of linear temporal logic, such as `G (request -> F grant)`, from the file FORMULA or from standard input.
 Its operators are those of Spot: `!` `&` `|` `->` `<->` `xor`, `X` `F` `G` `U` `R` `W` `M`. If there are several formulas,
@@ -186,6 +328,7 @@ Example: printf 'G (request -> F grant)' | parsolve automaton --outs grant | par
 const MEANS: Help = Help {
     about: "Prints whether an automaton accepts exactly the words that satisfy a formula",
     usage: "parsolve means [OPTIONS] [AUTOMATON FORMULA]",
+    options: &[MEANS_STATUS_OPTION, STATS_OPTION, JSON_OPTION],
     more: "\
 Input: an automaton in HOA v1, deterministic, with a parity condition and labels on its edges, and a formula, as `automaton`
 reads it, from the files AUTOMATON and FORMULA, or from standard input with a line `--` between them. A header
@@ -201,6 +344,7 @@ prints `SAME`.",
 const GAME: Help = Help {
     about: "Prints the parity game of an automaton",
     usage: "parsolve game [OPTIONS] [AUTOMATON]",
+    options: &[OUTS_OPTION, STATS_OPTION, JSON_OPTION],
     more: "\
 Input: an automaton in HOA v1, deterministic, with a parity condition and labels on its edges, from the file AUTOMATON or
 from standard input. The header `controllable-AP` lists the propositions that the controller sets. If there is no such
@@ -216,6 +360,15 @@ Example: parsolve game examples/request-grant.hoa | parsolve solve",
 const SYNTH: Help = Help {
     about: "Prints a controller for an automaton, as a circuit",
     usage: "parsolve synth [OPTIONS] [AUTOMATON]",
+    options: &[
+        WORKERS_OPTION,
+        APART_OPTION,
+        SMALL_OPTION,
+        COUNTER_OPTION,
+        OUTS_OPTION,
+        STATS_OPTION,
+        JSON_OPTION,
+    ],
     more: "\
 Input: an automaton in HOA v1, deterministic, with a parity condition and labels on its edges, from the file AUTOMATON or
 from standard input. The header `controllable-AP` lists the propositions that the controller sets. If there is no such
@@ -231,8 +384,17 @@ Example: parsolve synth examples/request-grant.hoa",
 };
 
 const VERIFY: Help = Help {
-    about: "Prints whether an automaton accepts each run of a circuit",
-    usage: "parsolve verify [OPTIONS] [AUTOMATON CIRCUIT]",
+    about: "Prints whether an automaton accepts each run of a circuit, or each run satisfies a formula",
+    usage: "parsolve verify [OPTIONS] [AUTOMATON CIRCUIT]\n       parsolve verify --ltl [OPTIONS] [FORMULA CIRCUIT]",
+    options: &[
+        LTL_OPTION,
+        BY_PLACE_OPTION,
+        ENVIRONMENT_OPTION,
+        OUTS_OPTION,
+        VERIFY_STATUS_OPTION,
+        STATS_OPTION,
+        JSON_OPTION,
+    ],
     more: "\
 Input: an automaton, as `synth` reads it, and a circuit in AIGER, ASCII or binary, from the files AUTOMATON and CIRCUIT, or
 from standard input with a line `--` between them. The answer of `synth` is such a circuit. The symbols of the circuit's
@@ -246,215 +408,66 @@ With `--environment` the circuit plays the environment: its inputs are the propo
 the others, and no output depends on an input of the same step. Output: `REFUTES` if the automaton accepts no run of it,
 whatever the controller does, so that there is no controller. Or `FAILS`, lines of inputs, a line `loop`, and lines that
 repeat for ever: the automaton accepts the run on these inputs. With `--status` the exit status is 0 for `REFUTES`.
+With `--ltl` the first input is a formula, as `automaton` reads it, with any number of propositions. The formula names inputs,
+outputs and latches of the circuit by their symbols, and those that it does not name are free. Output: `ACCEPTED` if every run
+of the circuit satisfies the formula, and otherwise `REJECTED` and lines of inputs, as above. With `--environment` it is
+`REFUTES` if no run satisfies the formula, and otherwise `FAILS` and lines of inputs.
 
 Example: parsolve synth examples/arbiter.hoa | parsolve verify examples/arbiter.hoa -",
 };
 
-/// The help of `--status` for `check`.
-const CHECK_STATUS: &str = "End with status 0 for `WINS`, and 10 for `LEAVES` and `CYCLE`";
-
-/// The help of `--status` for `verify`.
-const VERIFY_STATUS: &str =
-    "End with status 0 for `ACCEPTED` and `REFUTES`, and 10 for other answers";
-
-/// The help of `--status` for `means`.
-const MEANS_STATUS: &str = "End with status 0 for `SAME`, and 10 for `DIFFERS`";
-
 const WORKER_MORE: &str = "\
 It reads no standard input and prints nothing: it connects to the port, and ends when the solver tells it to or goes away.";
 
-/// The option `--workers N`.
-fn workers_option<'a>(alloc: Global) -> Arg<'a> {
-    Arg::new(alloc, WORKERS)
-        .long(WORKERS)
-        .value_name("N")
-        .help("How many workers solve the game, from 0 to 16; the answer is the same")
-        .action(ArgAction::Set)
-        .value_parser(clap::value_parser!(u8).range(0..=16))
-        .default_value("2")
+/// Returns the option for `clap`.
+fn arg_of<'a>(alloc: Global, option: CliOption) -> Result<Arg<'a>, Error> {
+    let arg = Arg::new(alloc, option.name)
+        .long(option.name)
+        .help(option.help)
+        .conflicts_with_all(option.conflicts)?;
+    Ok(match option.value {
+        OptionValue::Nothing => arg.action(ArgAction::SetTrue),
+        OptionValue::Text(name) => arg.value_name(name).action(ArgAction::Set),
+        OptionValue::Workers => arg
+            .value_name("N")
+            .action(ArgAction::Set)
+            .value_parser(clap::value_parser!(u8).range(0..=16))
+            .default_value("2"),
+        OptionValue::Port => arg
+            .value_name("P")
+            .required(true)
+            .action(ArgAction::Set)
+            .value_parser(clap::value_parser!(u16).range(1..)),
+    })
 }
 
-/// The option `--apart PATH`.
-fn apart_option<'a>(alloc: Global) -> Arg<'a> {
-    Arg::new(alloc, APART)
-        .long(APART)
-        .value_name("PATH")
-        .help(
-            "Start each worker as the program PATH, which must be this program; the answer is the same",
-        )
-        .action(ArgAction::Set)
-}
-
-/// The option `--any`.
-fn any_option<'a>(alloc: Global) -> Result<Arg<'a>, Error> {
-    Ok(
-        Arg::new(alloc, ANY)
-            .long(ANY)
-            .help("Print any winning strategy, found in less time; the winners are the same")
-            .action(ArgAction::SetTrue)
-            .conflicts_with(WORKERS)?
-            .conflicts_with(APART)?,
-    )
-}
-
-/// The option `--small`.
-fn small_option<'a>(alloc: Global) -> Result<Arg<'a>, Error> {
-    Ok(
-        Arg::new(alloc, SMALL)
-            .long(SMALL)
-            .help("Print a small circuit, found in more time; every run of it is accepted too")
-            .action(ArgAction::SetTrue)
-            .conflicts_with(WORKERS)?
-            .conflicts_with(APART)?,
-    )
-}
-
-/// The option `--counter`.
-fn counter_option<'a>(alloc: Global) -> Result<Arg<'a>, Error> {
-    Ok(
-        Arg::new(alloc, COUNTER)
-            .long(COUNTER)
-            .help("If there is no controller, print a circuit of the environment that shows why")
-            .action(ArgAction::SetTrue)
-            .conflicts_with(WORKERS)?
-            .conflicts_with(APART)?
-            .conflicts_with(SMALL)?,
-    )
-}
-
-/// The option `--by-place`.
-fn by_place_option<'a>(alloc: Global) -> Arg<'a> {
-    Arg::new(alloc, BY_PLACE)
-        .long(BY_PLACE)
-        .help("Match the circuit's inputs and outputs to the propositions by order, not by name")
-        .action(ArgAction::SetTrue)
-}
-
-/// The option `--environment`.
-fn environment_option<'a>(alloc: Global) -> Arg<'a> {
-    Arg::new(alloc, ENVIRONMENT)
-        .long(ENVIRONMENT)
-        .help(
-            "Ask whether a circuit that plays the environment keeps every controller from success",
-        )
-        .action(ArgAction::SetTrue)
-}
-
-/// The option `--outs NAMES`.
-fn outs_option<'a>(alloc: Global) -> Arg<'a> {
-    Arg::new(alloc, OUTS)
-        .long(OUTS)
-        .value_name("NAMES")
-        .help(
-            "The propositions that the controller sets, separated by commas, in place of the header; blanks around them don't count",
-        )
-        .action(ArgAction::Set)
-}
-
-/// The option `--stats`.
-fn stats_option<'a>(alloc: Global) -> Arg<'a> {
-    Arg::new(alloc, STATS)
-        .long(STATS)
-        .help("Print counts and seconds on the error stream, after the answer")
-        .action(ArgAction::SetTrue)
-}
-
-/// The option `--json`.
-fn json_option<'a>(alloc: Global) -> Arg<'a> {
-    Arg::new(alloc, JSON)
-        .long(JSON)
-        .help("Print counts and seconds as one JSON object on the error stream, after the answer")
-        .action(ArgAction::SetTrue)
-}
-
-/// The option `--status`, with its help.
-fn status_option<'a>(alloc: Global, help: &'static str) -> Arg<'a> {
-    let help: &'a str = help;
-    Arg::new(alloc, STATUS)
-        .long(STATUS)
-        .help(help)
-        .action(ArgAction::SetTrue)
-}
-
-/// The option `--port P`.
-fn port_option<'a>(alloc: Global) -> Arg<'a> {
-    Arg::new(alloc, PORT)
-        .long(PORT)
-        .value_name("P")
-        .help("The port of 127.0.0.1 to connect to, from 1 to 65535")
-        .required(true)
-        .action(ArgAction::Set)
-        .value_parser(clap::value_parser!(u16).range(1..))
-}
-
-/// Returns the command for `clap`, with this help.
-fn helped<'a>(alloc: Global, command: Command, help: Help) -> Result<Program<'a>, Error> {
-    let (name, about, more): (&'a str, &'a str, &'a str) = (command.name(), help.about, help.more);
-    let usage: &'a str = help.usage;
-    Ok(
-        Program::new(alloc, name)
-            .about(about)
-            .override_usage(usage)
-            .after_help(more),
-    )
-}
-
-/// Returns the command for `clap`, with this help and the options for workers that solve its games.
-fn shared<'a>(alloc: Global, command: Command, help: Help) -> Result<Program<'a>, Error> {
-    Ok(
-        helped(alloc, command, help)?
-            .arg(workers_option(alloc))?
-            .arg(apart_option(alloc))?,
-    )
-}
-
-/// Adds the options for figures.
-fn counted<'a>(alloc: Global, program: Program<'a>) -> Result<Program<'a>, Error> {
-    Ok(program.arg(stats_option(alloc))?.arg(json_option(alloc))?)
+/// Returns the help of a command.
+fn help_of(command: Command) -> Help {
+    match command {
+        Command::Measure { .. } => MEASURE,
+        Command::Solve { .. } | Command::SolveAny { .. } => SOLVE,
+        Command::Check => CHECK,
+        Command::Replay => REPLAY,
+        Command::Automaton => AUTOMATON,
+        Command::Means => MEANS,
+        Command::Game => GAME,
+        Command::Synth { .. } | Command::SynthSmall { .. } | Command::SynthCounter { .. } => SYNTH,
+        Command::Verify { .. } | Command::VerifyFormula { .. } => VERIFY,
+    }
 }
 
 /// Returns the command for `clap`, with its help and its options.
 fn subcommand<'a>(alloc: Global, command: Command) -> Result<Program<'a>, Error> {
-    match command {
-        Command::Measure { .. } => counted(alloc, shared(alloc, command, MEASURE)?),
-        Command::Solve { .. } | Command::SolveAny { .. } => counted(
-            alloc,
-            shared(alloc, command, SOLVE)?.arg(any_option(alloc)?)?,
-        ),
-        Command::Check => counted(
-            alloc,
-            helped(alloc, command, CHECK)?.arg(status_option(alloc, CHECK_STATUS))?,
-        ),
-        Command::Replay => helped(alloc, command, REPLAY),
-        Command::Automaton => counted(
-            alloc,
-            helped(alloc, command, AUTOMATON)?.arg(outs_option(alloc))?,
-        ),
-        Command::Means => counted(
-            alloc,
-            helped(alloc, command, MEANS)?.arg(status_option(alloc, MEANS_STATUS))?,
-        ),
-        Command::Game => counted(
-            alloc,
-            helped(alloc, command, GAME)?.arg(outs_option(alloc))?,
-        ),
-        Command::Synth { .. } | Command::SynthSmall { .. } | Command::SynthCounter { .. } =>
-            counted(
-                alloc,
-                shared(alloc, command, SYNTH)?
-                    .arg(small_option(alloc)?)?
-                    .arg(counter_option(alloc)?)?
-                    .arg(outs_option(alloc))?,
-            ),
-        Command::Verify { .. } => counted(
-            alloc,
-            helped(alloc, command, VERIFY)?
-                .arg(by_place_option(alloc))?
-                .arg(environment_option(alloc))?
-                .arg(outs_option(alloc))?
-                .arg(status_option(alloc, VERIFY_STATUS))?,
-        ),
+    let help = help_of(command);
+    let name: &'a str = command.name();
+    let mut program = Program::new(alloc, name)
+        .about(help.about)
+        .override_usage(help.usage)
+        .after_help(help.more);
+    for option in help.options {
+        program = program.arg(arg_of(alloc, *option)?)?;
     }
+    Ok(program)
 }
 
 /// Returns the worker for `clap`.
@@ -465,7 +478,7 @@ fn worker<'a>(alloc: Global) -> Result<Program<'a>, Error> {
                 "Lifts vertices for the solver that started it, with `--apart` of measure, solve or synth",
             )
             .after_help(WORKER_MORE)
-            .arg(port_option(alloc))?,
+            .arg(arg_of(alloc, PORT_OPTION)?)?,
     )
 }
 
@@ -546,6 +559,9 @@ fn line_of(alloc: Global, name: &str, matches: &ArgMatches<'_>) -> Result<Option
         Command::Synth { workers } if has_flag(matches, SMALL) => Command::SynthSmall { workers },
         Command::Synth { workers } if has_flag(matches, COUNTER) => Command::SynthCounter {
             workers,
+        },
+        Command::Verify { .. } if has_flag(matches, LTL) => Command::VerifyFormula {
+            environment: has_flag(matches, ENVIRONMENT),
         },
         Command::Verify { workers, .. } => Command::Verify {
             workers,

@@ -56,3 +56,8 @@ pub returns-in-SynthCounter-clause-answer : goal.returns-in-SynthCounter-clause-
 returns-in-SynthCounter-clause-answer g c =
     answered _ _ _ _ _ _ _ _ _ c.requires.limit c.in-SynthCounter.is c.synth_counter.ensures.answer c.synth_counter.ensures.refused
     c.print-in-SynthCounter.ensures.written c.print-in-SynthCounter.ensures.refused
+
+pub returns-in-VerifyFormula-clause-answer : goal.returns-in-VerifyFormula-clause-answer
+returns-in-VerifyFormula-clause-answer g c =
+    answered _ _ _ _ _ _ _ _ _ c.requires.limit c.in-VerifyFormula.is c.verify_formula.ensures.answer c.verify_formula.ensures.refused
+    c.print-in-VerifyFormula.ensures.written c.print-in-VerifyFormula.ensures.refused

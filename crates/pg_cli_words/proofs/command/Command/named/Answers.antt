@@ -1,6 +1,6 @@
 use Rattle.std.proofs.Common.{◌≢◌, ◌∷◌, [], false, ℕ, ◌<◌, List, get_or, lit<, arith}
 use Rattle.pg_cli_words.specs.declared.command.Command.{Command}
-use Rattle.pg_cli_words.specs.declared.command.Command.TheVariants.{Measure, Solve, SolveAny, Check, Replay, Automaton, Means, Game, Synth, SynthSmall, SynthCounter, Verify}
+use Rattle.pg_cli_words.specs.declared.command.Command.TheVariants.{Measure, Solve, SolveAny, Check, Replay, Automaton, Means, Game, Synth, SynthSmall, SynthCounter, Verify, VerifyFormula}
 use Rattle.pg_cli_words.specs.Commands.{command_name}
 use Rattle.pg_cli_words.proofs.command.Command.named.Goals as goal
 
@@ -19,6 +19,7 @@ unnamed name workers none (Synth n) = none 7 (lit< tt)
 unnamed name workers none (SynthSmall n) = none 7 (lit< tt)
 unnamed name workers none (SynthCounter n) = none 7 (lit< tt)
 unnamed name workers none (Verify n by_place environment) = none 8 (lit< tt)
+unnamed name workers none (VerifyFormula environment) = none 8 (lit< tt)
 
 pub returns-clause-unknown : goal.returns-clause-unknown
 returns-clause-unknown c =
