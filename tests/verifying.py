@@ -238,8 +238,6 @@ def names(program):
     yield "names in another order", asked(program, two, crossed), (0, b"ACCEPTED\n", b"")
     yield "the order of places", asked(program, two, crossed, "--by-place")[1].split(b"\n")[0], b"STUCK"
     yield "no names, by place", asked(program, AUTOMATON, b"aag 1 1 0 1 0\n2\n2\n", "--by-place"), (0, b"ACCEPTED\n", b"")
-    named = asked(program, AUTOMATON.replace(b'"g"', b'"g\r"'), WIRE.replace(b"g\n", b"g\r\r\n"))
-    yield "a name that ends in a carriage return", named, (0, b"ACCEPTED\n", b"")
     yield "inputs in the circuit's order", asked(program, two, b"aag 2 2 0 1 0\n2\n4\n5\ni0 s\ni1 r\no0 g\n")[1].split(b"\n")[0], b"STUCK"
 
 

@@ -9,7 +9,7 @@ use Rattle.pg_cli_command.specs.Answers.{Prints, Refuses}
 use Rattle.parsolve_c.specs.declared.code.TheConstants.{PARSOLVE_COMMAND_MEASURE, PARSOLVE_COMMAND_SOLVE, PARSOLVE_COMMAND_CHECK}
 use Rattle.parsolve_c.specs.declared.code.TheConstants.{PARSOLVE_COMMAND_REPLAY, PARSOLVE_COMMAND_GAME, PARSOLVE_COMMAND_SYNTH, PARSOLVE_COMMAND_SOLVE_ANY}
 use Rattle.parsolve_c.specs.declared.code.TheConstants.{PARSOLVE_COMMAND_VERIFY, PARSOLVE_COMMAND_SYNTH_SMALL, PARSOLVE_COMMAND_AUTOMATON}
-use Rattle.parsolve_c.specs.declared.code.TheConstants.{PARSOLVE_COMMAND_MEANS, PARSOLVE_COMMAND_SYNTH_COUNTER, PARSOLVE_COMMAND_VERIFY_FORMULA}
+use Rattle.parsolve_c.specs.declared.code.TheConstants.{PARSOLVE_COMMAND_MEANS, PARSOLVE_COMMAND_SYNTH_COUNTER, PARSOLVE_COMMAND_VERIFY_LTL}
 
 -- the command with this number
 abbrev pub command_of : ℕ → Option Command
@@ -26,7 +26,7 @@ command_of n =
     else (if n == PARSOLVE_COMMAND_AUTOMATON then Some Automaton
     else (if n == PARSOLVE_COMMAND_MEANS then Some Means
     else (if n == PARSOLVE_COMMAND_SYNTH_COUNTER then Some (SynthCounter 1)
-    else (if n == PARSOLVE_COMMAND_VERIFY_FORMULA then Some (VerifyFormula false)
+    else (if n == PARSOLVE_COMMAND_VERIFY_LTL then Some (VerifyFormula false)
     else None))))))))))))
 
 -- each number of the header stands for a command of its own, and no command has two numbers
@@ -43,7 +43,7 @@ pub record NumbersTellApart : Type 0 where
   pub automaton : command_of PARSOLVE_COMMAND_AUTOMATON ≡ Some Automaton
   pub means : command_of PARSOLVE_COMMAND_MEANS ≡ Some Means
   pub synth_counter : command_of PARSOLVE_COMMAND_SYNTH_COUNTER ≡ Some (SynthCounter 1)
-  pub verify_formula : command_of PARSOLVE_COMMAND_VERIFY_FORMULA ≡ Some (VerifyFormula false)
+  pub verify_formula : command_of PARSOLVE_COMMAND_VERIFY_LTL ≡ Some (VerifyFormula false)
   pub one_number : (m n : ℕ) (command : Command) → command_of m ≡ Some command → command_of n ≡ Some command → m ≡ n
 
 -- the command with this number prints this text for the input

@@ -13,7 +13,7 @@ use crate::code::{
     PARSOLVE_COMMAND_MEANS, PARSOLVE_COMMAND_MEASURE, PARSOLVE_COMMAND_REPLAY,
     PARSOLVE_COMMAND_SOLVE, PARSOLVE_COMMAND_SOLVE_ANY, PARSOLVE_COMMAND_SYNTH,
     PARSOLVE_COMMAND_SYNTH_COUNTER, PARSOLVE_COMMAND_SYNTH_SMALL, PARSOLVE_COMMAND_VERIFY,
-    PARSOLVE_COMMAND_VERIFY_FORMULA, PARSOLVE_FAULT, PARSOLVE_OK, PARSOLVE_OUT_OF_MEMORY,
+    PARSOLVE_COMMAND_VERIFY_LTL, PARSOLVE_FAULT, PARSOLVE_OK, PARSOLVE_OUT_OF_MEMORY,
     PARSOLVE_TOO_SHORT,
 };
 use crate::copying::copy_bytes;
@@ -42,7 +42,7 @@ fn command_of(number: u32) -> Option<Command>
         PARSOLVE_COMMAND_AUTOMATON => Some(Command::Automaton),
         PARSOLVE_COMMAND_MEANS => Some(Command::Means),
         PARSOLVE_COMMAND_SYNTH_COUNTER => Some(Command::SynthCounter { workers: 1 }),
-        PARSOLVE_COMMAND_VERIFY_FORMULA => Some(Command::VerifyFormula { environment: false }),
+        PARSOLVE_COMMAND_VERIFY_LTL => Some(Command::VerifyFormula { environment: false }),
         _ => None,
     }
 }

@@ -85,7 +85,7 @@ pub const PARSOLVE_COMMAND_MEANS: u32 = 10;
 pub const PARSOLVE_COMMAND_SYNTH_COUNTER: u32 = 11;
 
 /// `verify --ltl`.
-pub const PARSOLVE_COMMAND_VERIFY_FORMULA: u32 = 12;
+pub const PARSOLVE_COMMAND_VERIFY_LTL: u32 = 12;
 
 /// Returns the code of a fault of a game.
 fn game_code(fault: GameFault) -> u32
