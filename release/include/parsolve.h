@@ -155,7 +155,8 @@ enum {
     PARSOLVE_COMMAND_SYNTH_SMALL = 8, /* synth --small */
     PARSOLVE_COMMAND_AUTOMATON = 9,
     PARSOLVE_COMMAND_MEANS = 10,
-    PARSOLVE_COMMAND_SYNTH_COUNTER = 11 /* synth --counter */
+    PARSOLVE_COMMAND_SYNTH_COUNTER = 11, /* synth --counter */
+    PARSOLVE_COMMAND_VERIFY_LTL = 12 /* verify --ltl */
 };
 
 /* Answers a command for an input. *written is the length of the text. If `output` is too short, the command has run just to find that length,

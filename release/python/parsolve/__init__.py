@@ -28,7 +28,7 @@ from collections.abc import Iterable, Sequence
 __version__ = "0.2.0"
 NO_CHOICE = 0xFFFFFFFF
 COMMANDS = ("measure", "solve", "check", "replay", "game", "synth", "solve --any", "verify", "synth --small", "automaton",
-            "means", "synth --counter")
+            "means", "synth --counter", "verify --ltl")
 KINDS = {"priorities": "I", "owners": "B", "starts": "I", "successors": "I", "winners": "B", "strategy": "I", "cycle": "I"}
 OK, OUT_OF_MEMORY, LEAVES, CYCLE, FAULT = 0, 1, 14, 15, 17
 TEXTS = {
