@@ -232,8 +232,9 @@ static void same_texts(const struct arrays *a) {
     }
     uint8_t byte = 7;
     struct parsolve_text text = {&byte, 1};
-    if (parsolve_answer_new(12, (const uint8_t *)TEXT, 22, &text) != PARSOLVE_COMMAND || text.bytes != &byte || text.bytes_length != 1)
-        wrong("no such command", 12);
+    uint32_t unknown = PARSOLVE_COMMAND_VERIFY_LTL + 1;
+    if (parsolve_answer_new(unknown, (const uint8_t *)TEXT, 22, &text) != PARSOLVE_COMMAND || text.bytes != &byte || text.bytes_length != 1)
+        wrong("no such command", unknown);
 }
 
 static long refuse_each(int call, const struct arrays *a) {
