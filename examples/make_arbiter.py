@@ -2,12 +2,12 @@
 """Prints examples/arbiter.hoa: an arbiter of four clients that share a resource, as a deterministic automaton.
 
 Client c asks with `request_c`, which the environment sets, and is served by `grant_c`, which the controller sets. A client
-that asks waits until it is served, and nobody waits for ever. At most one client is served in a step, and only one that
+that asks waits until it is served, and nobody waits forever. At most one client is served in a step, and only one that
 asks or waits; a step that breaks this has no edge.
 
 A state says who waits, and whose turn it is. The turn stays with a client until it is served, and then goes round to the next
 one that waits. Set 0 is on each edge with which the turn goes on, or after which nobody waits: so it recurs exactly if
-nobody waits for ever.
+nobody waits forever.
 """
 import itertools
 

@@ -4,11 +4,11 @@
 Somebody at floor f calls it with `call_f`, which the environment sets. The controller sets `up`, `down` and `open`, at most one of them
 in a step: the lift goes to the next floor, or its door opens. It can't go up from the uppermost floor, nor down from the lowest one,
 and its door opens only at a floor from which it was called. A step that breaks this has no edge. A call waits until the door opens at
-its floor, and no call waits for ever.
+its floor, and no call waits forever.
 
 A state says where the lift is, from which floors it is called, and whose turn it is. The turn stays at a floor until that is served, and
 then goes round to the next one that waits. Set 0 is on each edge with which the turn goes on, or after which no call waits: so it
-recurs exactly if no call waits for ever.
+recurs exactly if no call waits forever.
 """
 import itertools
 

@@ -8,7 +8,7 @@ or to none, never to both. A token names the client whose turn it is, and goes o
     pass T AB   the same just after the token went on: priority 2
     ctl  T AB   the arbiter's turn: priority 0
 
-Every client that asks is served again and again exactly if the token goes on for ever, that is if priority 2 recurs:
+Every client that asks is served again and again exactly if the token goes on forever, that is if priority 2 recurs:
 the greatest recurring priority is then 2, otherwise 1. The arbiter wins everywhere by serving the token's client.
 """
 def number(kind, turn, a, b):

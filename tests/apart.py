@@ -48,7 +48,8 @@ FAILING = ["exits_at_once", "connects_and_exits", "half_a_frame_and_exits", "hal
            "length_at_the_limit", "unknown_kind", "setup_in_reply", "outside_its_part", "above_the_bounds", "another_width",
            "the_other_kind", "too_many_frames", "refuses", "refuses_to_lift", "quiet_at_once"]
 WAITING = ["never_connects", "connects_and_closes", "says_nothing", "half_a_frame_and_silence", "drips"]
-STARTING = ("killed_after", "nonsense_once", "raises_to_top", "slow", "starts_the_worker")  # these start a program in turn, which ends a little later
+STARTING = ("killed_after", "nonsense_once", "raises_to_top", "slow", "starts_the_worker",
+            "far-worker")  # these start a program in turn, which ends a little later
 
 
 def begin():
@@ -100,7 +101,7 @@ class Run:
             self.output, self.errors = ran.communicate()
             return "it hangs"
         self.status = ran.returncode
-        left = left_behind(10 if self.path.startswith(STARTING) else 0)
+        left = left_behind(10 if os.path.basename(self.path).startswith(STARTING) else 0)
         return f"{left} programs were left behind" if left else None
 
     def differs(self, status, output, errors=""):

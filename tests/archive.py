@@ -20,6 +20,7 @@ TYPED = [
     ("bin/parsolve synth share/parsolve/examples/request-grant.hoa > answer; echo request | bin/parsolve-circuit simulate answer | wc -l", "2\n"),
     ("bin/parsolve-draw --dot share/parsolve/examples/two.pg | sed -n 1p", "digraph game {\n"),
     ("echo 'workers 1;' | bin/parsolve-draw --replay share/parsolve/examples/two.pg - | wc -l", "2\n"),
+    ("bin/parsolve-tlsf --outs share/parsolve/examples/arbiter.tlsf", "grant_0,grant_1\n"),
     ("bin/parsolve-where share/parsolve/examples/two.pg 0 | sed -n 1p", "line 1, column 1\n"),
     ("grep -c '^.TH PARSOLVE 1 ' share/man/man1/parsolve.1", "1\n"),
     ("bash -c '. share/bash-completion/completions/parsolve; COMP_WORDS=(parsolve s); COMP_CWORD=1; _parsolve; echo ${COMPREPLY[@]}'",

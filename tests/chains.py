@@ -1,4 +1,4 @@
-"""Which definitions a law needs: the chains of docs/map.md, each from its laws down to the definitions that they need.
+"""Which definitions a law needs: the chains of docs/contracts.md, each from its laws down to the definitions that they need.
 
 A definition needs those that its text names, in its own module or through `use`. Names that Rust declares (`declared`) and those of the
 kit (`Rattle.std`) aren't counted.

@@ -1,5 +1,6 @@
 """Checks what tools/pg makes of games that `parsolve` doesn't read: comments, min parity, identifiers over the limit; what it says about
 each change, and what it refuses. The winners of random min-parity games are those of every pair of strategies, by the least priority."""
+import gzip
 import itertools
 import random
 import subprocess
@@ -11,6 +12,8 @@ from case import TOP
 MARK = "\ufeff"
 AS_IT_STANDS = 'parity 4;\nstart 3;\n3 1 0 3,4,3 "three";\n4 0 1 3;\n'
 MIN = "min parity made max parity: priority P became {} - P".format
+DEAD_END = ("standard input: vertex {} has no successor at byte {}: a dead end isn't read. If its owner loses there, give it itself as its "
+            "successor and the priority {}")
 LARGE = "identifiers over 4294967295 renumbered, ".__add__
 # for each game: the words, the result, and the text about the changes
 MADE = [
@@ -40,7 +43,19 @@ MADE = [
     ("parity 1;", [], None, "standard input: no vertex"),
     ("0 0 0 0; /* no end", [], None, "standard input: syntax error at byte 9"),
     ("0 0 0 0; / 1", [], None, "standard input: syntax error at byte 9"),
-    ("0 0 0;", [], None, "standard input: syntax error at byte 5"),
+    ("0 0 0;", [], None, DEAD_END.format(0, 5, 1)),
+    ('0 0 0 0; 7 1 1 "a";', [], None, DEAD_END.format(7, 15, 0)),
+    ("0 0 0", [], None, "standard input: syntax error at byte 5"),
+    # lines with more blanks and zeros than they need, and with comments inside and between them
+    ("00 0 00 00 , 1;01 1 1 0 ,\t01;", [], "parity 1;\n0 0 0 0,1;\n1 1 1 0,1;\n", None),
+    ("0 0 0 0;1 1 1 0,/* a */1;2 0 0 0;// b\n# c\n/* d */3 0 0 1;", [],
+     "parity 3;\n0 0 0 0;\n1 1 1 0,1;\n2 0 0 0;\n3 0 0 1;\n", "comments left out"),
+    ('0 0 0 0 "\r";\n1 0 0 0;', [], 'parity 1;\n0 0 0 0 "\r";\n1 0 0 0;\n', None),
+    ('0 0 0\r0 "a";1 0 0 0;', [], 'parity 1;\n0 0 0 0 "a";\n1 0 0 0;\n', "carriage returns left out"),
+    ('0 0 0 0 "a"\r;1 0 0 0;', [], 'parity 1;\n0 0 0 0 "a";\n1 0 0 0;\n', "carriage returns left out"),
+    ("0 0 0 0;/*\r*/1 0 0 0;", [], "parity 1;\n0 0 0 0;\n1 0 0 0;\n", "carriage returns, comments left out"),
+    ("0 4294967295 0 0;", [], None, "standard input: vertex 0 has priority 4294967295, the limit is 65535"),
+    ("0 0 0 0;1 4294967296 0 0;", [], None, "standard input: number too large at byte 10"),
     ("0 0 0 0 0;", [], None, "standard input: syntax error at byte 8"),
     ("0 0 2 0;", [], None, "standard input: number out of range at byte 4"),
     ("0 4294967296 0 0;", [], None, "standard input: number too large at byte 2"),
@@ -56,7 +71,8 @@ MADE = [
 
 def converted(text, *words):
     """(status, output, error stream) of the tool."""
-    ran = subprocess.run([sys.executable, TOP / "tools/pg", *words], input=text.encode(), capture_output=True, timeout=60)
+    ran = subprocess.run([sys.executable, TOP / "tools/pg", *words], input=text if isinstance(text, bytes) else text.encode(), capture_output=True,
+                         timeout=60)
     return ran.returncode, ran.stdout.decode(), ran.stderr.decode()
 
 
@@ -71,6 +87,26 @@ def games():
     yield "no such file", converted("", "nothing"), (1, "", "pg: nothing: No such file or directory\n")
     path = str(TOP / "examples/sender.pg")
     yield "a file", converted("", path), (0, (TOP / "examples/sender.pg").read_text(), "")
+
+
+def packed():
+    """The same for games that gzip packed."""
+    one, other = gzip.compress(b"0 0 0 0;/* a"), gzip.compress(b" */1 0 0 0;")
+    for text, wanted in ((gzip.compress(AS_IT_STANDS.encode()), (0, AS_IT_STANDS, "pg: note: standard input: gzip unpacked\n")),
+                         (one + other, (0, "parity 1;\n0 0 0 0;\n1 0 0 0;\n", "pg: note: standard input: gzip unpacked; comments left out\n")),
+                         (one[:-9], (1, "", "pg: standard input: the end of what gzip packed is missing\n")),
+                         (b"\x1f\x8bother bytes, and enough of them", (1, "", "pg: standard input: it begins as gzip does, but can't be unpacked\n")),
+                         (gzip.compress(b"0 0 0 1;"), (1, "", "pg: standard input: vertex 0 has successor 1, which no line defines\n"))):
+        yield f"{text[:40]}", converted(text), wanted
+
+
+def large():
+    """The same for a large game, which is read in time that grows with its length."""
+    lines = [f"{it} {it % 7} {it % 2} {it * 7 % 50000},{it * 11 % 50000};" for it in range(50000)]
+    text = "parity 49999;\n" + "".join(f"{it}\n" for it in lines)
+    yield "a large game", converted(text) == (0, text, ""), True
+    made = converted(text.replace(",", " , ").replace(";\n", "; // a comment\n"))
+    yield "with comments and blanks", made == (0, text, "pg: note: standard input: comments left out\n"), True
 
 
 def random_game(dice):
@@ -106,4 +142,4 @@ def winners(program):
         yield f"at random {number}", found, [won_by_even(game, it) for it in range(len(game))]
 
 
-Tests = case.tests(__name__, games, winners)
+Tests = case.tests(__name__, games, packed, large, winners)

@@ -427,27 +427,82 @@ def released(copy):
     yield "after a change", copy.use(), refused(why)
 
 
-def installing(copy):
-    """./build --install installs program, library, tools and pages of release/, and asks the toolchain for nothing. The Python package gets a
-    library of its own."""
+def to_install(copy):
+    """Lays what an installation of the copy needs beside the released program, and removes what was built."""
     copy.release()
     shutil.rmtree(copy.top / "crates/parsolve/out", ignore_errors=True)
-    folder = copy.top.parent / "a prefix"
     for part in ("share", "examples"):
         copy.write(copy.top / part / "some/file", part)
-    for name in ("circuit", "draw", "hoa", "pg", "where", "games.py"):
+    for name in ("circuit", "draw", "hoa", "pg", "tlsf", "where", "games.py"):
         copy.write(copy.top / "tools" / name, "print('here')")
-    for name in ("release/README.md", "LICENSE-APACHE", "LICENSE-MIT"):
+    for name in ("release/README.md", "CITATION.cff", "LICENSE-APACHE", "LICENSE-MIT"):
         copy.write(copy.top / name, name)
+
+
+def below(folder):
+    """The paths below a folder."""
+    return {str(it.relative_to(folder)) for it in folder.rglob("*")}
+
+
+def installing(copy):
+    """./build --install installs program, library, tools and pages of release/, and asks the toolchain for nothing. The Python package gets a
+    library of its own. It lists what it put there."""
+    to_install(copy)
+    folder = copy.top.parent / "a prefix"
     for time_of in ("the first time", "again"):
         status, errors, asked = copy.build("--install", str(folder), PATH=os.environ["PATH"])
         yield time_of, (status, asked, errors if status else ""), (0, [], "")
-    laid = {str(it.relative_to(folder)) for it in folder.rglob("*") if it.is_file()}
+    laid = {it for it in below(folder) if (folder / it).is_file()}
     wanted = {"bin/parsolve", "bin/parsolve-draw", "share/some/file", "share/parsolve/examples/some/file", "share/parsolve/tools/games.py",
               "share/parsolve/README.md", "share/parsolve/LICENSE-MIT", "lib/libparsolve.so", "include/parsolve.h", "python/parsolve/__init__.py",
-              "python/parsolve/libparsolve.so"}
+              "python/parsolve/libparsolve.so", "share/parsolve/CITATION.cff", "share/parsolve/INSTALLED"}
     yield "what isn't there", sorted(wanted - laid), []
     yield "what is there", sorted({"share/parsolve/tools/fresh"} & laid), []
+    listed = (folder / "share/parsolve/INSTALLED").read_text().splitlines()
+    yield "the list", listed, sorted(it + "/" * (folder / it).is_dir() for it in below(folder))
+
+
+def uninstalling(copy):
+    """./build --uninstall removes what --install put into a folder, and what Python compiled of it; all else stays, and so does what a user put
+    beside it. What a newer version doesn't have goes when it is installed."""
+    to_install(copy)
+    folder, path = copy.top.parent / "a prefix", os.environ["PATH"]
+    copy.write(folder / "bin/other", "other")
+    before = below(folder)
+    copy.build("--install", str(folder), PATH=path)
+    copy.write(folder / "share/parsolve/tools/__pycache__/games.cpython-39.pyc", "compiled")
+    copy.write(copy.top / "tools/newer.py", "newer")
+    (copy.top / "tools/games.py").unlink()
+    copy.build("--install", str(folder), PATH=path)
+    tools = below(folder / "share/parsolve/tools")
+    yield "a newer version", sorted(tools & {"games.py", "newer.py", "__pycache__"}), ["newer.py"]
+    copy.write(folder / "share/parsolve/tools/__pycache__/newer.cpython-39.pyc", "compiled")
+    copy.write(folder / "share/parsolve/mine", "mine")
+    yield "the status", copy.build("--uninstall", str(folder), PATH=path)[:2], (0, "")
+    yield "what stays", below(folder), before | {"share", "share/parsolve", "share/parsolve/mine"}
+    told = f"parsolve: there is no {folder}/share/parsolve/INSTALLED, which ./build --install writes, so nothing is removed\n"
+    yield "once more", copy.build("--uninstall", str(folder), PATH=path)[:2], (1, told)
+    copy.write(folder / "share/parsolve/INSTALLED", "bin/other\n../a copy/build\n")
+    told = f"parsolve: {folder}/share/parsolve/INSTALLED isn't a list that ./build --install wrote\n"
+    yield "a list of other files", (copy.build("--uninstall", str(folder), PATH=path)[:2], (folder / "bin/other").exists()), ((1, told), True)
+
+
+def packaging(copy):
+    """DESTDIR and --prefix say where the files go, as packagers use them."""
+    to_install(copy)
+    folder, more = copy.top.parent / "a package", {"PATH": os.environ["PATH"], "DESTDIR": str(copy.top.parent / "a package")}
+    folder.mkdir()
+    for words, place in ((["--prefix", "/usr"], "usr"), ([], "usr/local"), (["/opt/parsolve"], "opt/parsolve")):
+        yield f"--install {words}", copy.build("--install", *words, **more)[:2], (0, "")
+        yield f"{place}: the program", (folder / place / "bin/parsolve").is_file(), True
+        yield f"{place}: nothing of the package's folder", [it for it in below(folder / place) if str(folder) in it], []
+        yield f"--uninstall {words}", copy.build("--uninstall", *words, **more)[:2], (0, "")
+        yield f"{place}: what stays", below(folder / place), set()
+        shutil.rmtree(folder / place.partition("/")[0])
+    for words in (["--prefix", "/usr"], ["--install", "/opt", "--prefix", "/usr"], ["--install", ""], ["--install", "/a", "--uninstall", "/a"]):
+        yield f"{words}", (copy.build(*words, **more)[0], below(folder)), (2, set())
+    copy.write(folder / "opt", "a file")
+    yield "a file in the way", copy.build("--install", "/opt", **more)[:2], (1, f"parsolve: {folder}/opt/bin: Not a directory\n")
 
 
 MODULES = re.search(r'^MODULES = """(.*?)"""', (TOP / "test").read_text(), re.M | re.S)[1].split()
@@ -502,8 +557,8 @@ def test_that_fails(copy):
 
 
 CHECKS = (first_build, later_uses, changes, set_back, laid_over, other_lines, moved_sources, other_programs, fewer_tools, sums, failures,
-          little_memory, at_once, other_toolchain, no_toolchain, releasing, released, installing, test_of_built, test_of_released, test_of_none, test_of_one,
-          test_that_fails)
+          little_memory, at_once, other_toolchain, no_toolchain, releasing, released, installing, uninstalling, packaging, test_of_built,
+          test_of_released, test_of_none, test_of_one, test_that_fails)
 
 
 def in_a_copy(check):

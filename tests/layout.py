@@ -5,7 +5,7 @@ To believe what is proved, you read the believed modules: the files of a crate's
 and `Lemmas` list. So
 - no believed module names a mirror, a lemma or a proof, of its own crate or of another (except `Rattle.std.proofs.Common`,
   which holds constructors of the logic), and no `Lib` passes one on;
-- docs/map.md lists each believed module once, with the number of its lines, in the first chain that needs it, and the public calls
+- docs/contracts.md lists each believed module once, with the number of its lines, in the first chain that needs it, and the public calls
   whose contracts name a mirror all the same; the numbers of its chains are right;
 - each name of docs/definitions.md is defined in the file named beside it;
 - each call and law that the README and the pages of docs/ name exists, and so does each clause, definition and edit of
@@ -26,7 +26,7 @@ import chains
 import edits as wrong_bodies
 from case import TOP
 
-CRATES, README, MAP, DEFINITIONS = TOP / "crates", TOP / "README.md", TOP / "docs/map.md", TOP / "docs/definitions.md"
+CRATES, README, CONTRACTS, DEFINITIONS = TOP / "crates", TOP / "README.md", TOP / "docs/contracts.md", TOP / "docs/definitions.md"
 PROMISES = TOP / "docs/promises.md"
 APART = {"Mirrors", "Lemmas"}
 EXCEPTIONS = re.compile(r"Public calls whose contracts name one: ((?:[^.]|\n)*)\.")
@@ -85,27 +85,27 @@ def imports():
             yield shown(path), name and f"passes on {name}"
 
 
-def rows_of_map():
-    """The same for the table of docs/map.md."""
-    rows = ROW.findall(MAP.read_text())
+def rows_of_contracts():
+    """The same for the table of docs/contracts.md."""
+    rows = ROW.findall(CONTRACTS.read_text())
     names = [name for name, _ in rows]
     for path in modules()[0]:
         if shown(path) not in names and not is_of_tests(path):
-            yield shown(path), "is in no row of docs/map.md: add one where readers should meet it"
+            yield shown(path), "is in no row of docs/contracts.md: add one where readers should meet it"
     for name, lines in rows:
         path = CRATES / name
         if not path.is_file():
-            yield name, "is in docs/map.md, but there is no such file"
+            yield name, "is in docs/contracts.md, but there is no such file"
         elif names.count(name) > 1:
-            yield name, "is in docs/map.md twice"
+            yield name, "is in docs/contracts.md twice"
         elif line_count(path) != int(lines):
-            yield name, f"has {line_count(path)} lines, and docs/map.md says {lines}: run tests/layout.py"
+            yield name, f"has {line_count(path)} lines, and docs/contracts.md says {lines}: run tests/layout.py"
         else:
             yield name, None
 
 
 def chain_rows():
-    """For each chain of docs/map.md, and for all, how its row must end."""
+    """For each chain of docs/contracts.md, and for all, how its row must end."""
     for name, chain in chains.chains().items():
         yield f"`{name}`", f"| {len(chain.files)} | {chain.lines} | {chain.own} |"
     read = [path for path in modules()[0] if not is_of_tests(path)]
@@ -114,7 +114,7 @@ def chain_rows():
 
 def rows_of_chains():
     """The same for the chains: their laws, their numbers, and the files in their sections."""
-    text = MAP.read_text()
+    text = CONTRACTS.read_text()
     for law in chains.missing():
         yield law, "isn't there, though tests/chains.py says so"
     for name, end in chain_rows():
@@ -177,10 +177,10 @@ def naming_mirrors():
 
 
 def exceptions():
-    """The same for the list of such calls in docs/map.md."""
-    found, listed = sorted(set(naming_mirrors())), re.findall(r"`([^`]+)`", re.search(EXCEPTIONS, MAP.read_text())[1])
+    """The same for the list of such calls in docs/contracts.md."""
+    found, listed = sorted(set(naming_mirrors())), re.findall(r"`([^`]+)`", re.search(EXCEPTIONS, CONTRACTS.read_text())[1])
     for name in sorted({*found, *listed}):
-        why = "names a mirror, which docs/map.md doesn't say" if name in found else "names no mirror, though docs/map.md says so"
+        why = "names a mirror, which docs/contracts.md doesn't say" if name in found else "names no mirror, though docs/contracts.md says so"
         yield name, None if name in found and name in listed else why
 
 
@@ -257,9 +257,9 @@ def kit():
             yield f"{crate}, {name}", None if is_used else "isn't used: the product is meant to use it there"
 
 
-def write_map():
+def write_contracts():
     """Sets the numbers of lines, takes out rows of files that are gone, and puts new modules after others of their crate."""
-    rows = MAP.read_text().split("\n")
+    rows = CONTRACTS.read_text().split("\n")
     kept = []
     for row in rows:
         found = ROW.match(row)
@@ -278,7 +278,7 @@ def write_map():
     for name, end in chain_rows():
         kept = [re.sub(rf"^(\| {name} \| .*?) (\| \d+ \| \d+ \| (?:\d+ )?\|)$", lambda it: f"{it[1]} {end}", row) for row in kept]
     text = "Public calls whose contracts name one: " + listed
-    MAP.write_text(EXCEPTIONS.sub(textwrap.fill(text, 124, break_long_words=False).replace("\n", "\n  ") + ".", "\n".join(kept)))
+    CONTRACTS.write_text(EXCEPTIONS.sub(textwrap.fill(text, 124, break_long_words=False).replace("\n", "\n  ") + ".", "\n".join(kept)))
 
 
 def write_definitions():
@@ -298,12 +298,12 @@ def write_definitions():
     DEFINITIONS.write_text("\n".join(text))
 
 
-Tests = case.tests(__name__, imports, rows_of_map, rows_of_chains, exceptions, entries, calls, promises, edits, stale_edits, types, kit)
+Tests = case.tests(__name__, imports, rows_of_contracts, rows_of_chains, exceptions, entries, calls, promises, edits, stale_edits, types, kit)
 
 
 if __name__ == "__main__":
     argparse.ArgumentParser(description=__doc__, formatter_class=argparse.RawDescriptionHelpFormatter).parse_args()
-    write_map()
+    write_contracts()
     write_definitions()
     believed, _, apart = modules()
     read = [path for path in believed if not is_of_tests(path)]

@@ -1,6 +1,6 @@
-"""Checks the pages: links and paths lead to files, lines are short, the first line says who the page is for, no decision is long, and
+"""Checks the pages: links lead to files and sections, and paths to files, lines are short, the first line says who the page is for, no decision is long, and
 code on the pages is that of the sources; that the examples made by scripts are what the scripts print; and that CHANGELOG.md begins
-with the version of the program."""
+with the version of the program, which CITATION.cff has too."""
 import re
 import subprocess
 import sys
@@ -11,7 +11,6 @@ from case import TOP
 PAGES = [*sorted(TOP.glob("*.md")), *sorted(TOP.glob("docs/*.md")), TOP / "examples/README.md"]
 FOLDERS = "bindings|docs|tests|examples|tools|bench|rows|share"
 LONGEST_LINE, MOST_WORDS = 160, 80
-PROGRAMS = {"parsolve", "certified"}
 MADE = {"mutex.pg": "make_mutex.py", "grid.pg": "make_grid.py", "arbiter.hoa": "make_arbiter.py", "lift.hoa": "make_lift.py"}
 
 
@@ -27,6 +26,15 @@ def links():
             yield f"{shown(page)}: {target}", None if (page.parent / target).exists() else "a link that leads nowhere"
         for path in sorted(set(re.findall(rf"(?<![\w/.-])(?:{FOLDERS})/[\w./-]*\w", text))):
             yield f"{shown(page)}: {path}", None if (TOP / path).exists() else "there is no such file"
+
+
+def anchors():
+    """The same for each link to a section, of this page or of another one."""
+    for page in PAGES:
+        for target, anchor in sorted(set(re.findall(r"\]\(([^)#:]*)#([^)]*)\)", page.read_text()))):
+            heads = re.findall(r"^#+ (.*)", (page.parent / target if target else page).read_text(), re.M)
+            is_there = anchor in {re.sub(r"[^\w -]", "", head.lower()).replace(" ", "-") for head in heads}
+            yield f"{shown(page)}: {target}#{anchor}", None if is_there else "a link to a section that isn't there"
 
 
 def lines():
@@ -52,16 +60,6 @@ def decisions():
         yield f"docs/DECISIONS.md: {row[2:60]}..", f"{words} words, over {MOST_WORDS}" if words > MOST_WORDS else None
 
 
-def libraries_above(crate):
-    """The libraries that use a crate, by crates.txt, without crates of tests and programs."""
-    lines = [line.split("#")[0].partition(":") for line in (TOP / "crates.txt").read_text().splitlines()]
-    below = {name.strip(): names.split() for name, mark, names in lines if mark}
-    found = {crate}
-    while grown := {name for name in below if name not in found and found & {*below[name]}}:
-        found |= grown
-    return {name for name in found - {crate, *PROGRAMS} if not name.endswith("_tests")}
-
-
 def shown_code():
     """The same for the function that docs/first_change.md changes, and the edit that it mends: both are as the page has them."""
     text = (TOP / "docs/first_change.md").read_text()
@@ -71,8 +69,6 @@ def shown_code():
     edit = TOP / "edits/pg_arena" / re.search(r"`(\w+\.edit)`", text)[1]
     is_there = edit.is_file() and edit.read_text().splitlines()[1].removeprefix("old: ") in function
     yield f"docs/first_change.md: {edit.name}", None if is_there else "doesn't change a line of the function"
-    count = len(libraries_above("pg_arena"))
-    yield "docs/first_change.md: libraries", None if f" {count} libraries " in text else f"{count} libraries use pg_arena"
 
 
 def shown_diffs():
@@ -102,10 +98,12 @@ def examples():
 
 
 def version():
-    """The same for the version that CHANGELOG.md names first: `--version` prints the same one."""
+    """The same for the version and the date that CHANGELOG.md has first: `--version` prints the same one, and CITATION.cff has both."""
     said = re.search(r'^const VERSION: &str = "(.*)";$', (TOP / "crates/pg_cli_words/src/words.rt").read_text(), re.M)
-    is_first = said and re.search(r"^## (.*) \(", (TOP / "CHANGELOG.md").read_text(), re.M)[1] == said[1]
-    yield "CHANGELOG.md: the version", None if is_first else "isn't the one that --version says"
+    first = re.search(r"^## (.*) \((.*)\)$", (TOP / "CHANGELOG.md").read_text(), re.M).groups()
+    yield "CHANGELOG.md: the version", None if said and first[0] == said[1] else "isn't the one that --version says"
+    cited = re.search(r"^version: (.*)\ndate-released: (.*)$", (TOP / "CITATION.cff").read_text(), re.M).groups()
+    yield "CITATION.cff: the version and the date", cited, first
 
 
-Tests = case.tests(__name__, links, lines, audiences, decisions, shown_code, shown_diffs, shown_theorem, examples, version)
+Tests = case.tests(__name__, links, anchors, lines, audiences, decisions, shown_code, shown_diffs, shown_theorem, examples, version)

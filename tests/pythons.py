@@ -19,6 +19,7 @@ JOBS = {
     "draw": (["--dot", "examples/two.pg"], "", "digraph game {\n"),
     "hoa": (["--outs", "grant", "examples/spot-implicit.hoa"], "", "HOA: v1\n"),
     "pg": (["--min"], "parity 0; /* a comment */ 0 1 0 0;", "parity 0;\n0 1 0 0;\n"),
+    "tlsf": (["--outs", "examples/arbiter.tlsf"], "", "grant_0,grant_1\n"),
     "where": (["examples/two.pg", "0"], "", "line 1, column 1\n"),
 }
 
@@ -156,6 +157,11 @@ def uses():
         yield text, newer(text), []
 
 
+def names():
+    """No module of tests/ has the name of one of tools/: a test that imports from both would find only one of them."""
+    yield "names", sorted({it.name for it in TOP.glob("tools/*.py")} & {it.name for it in TOP.glob("tests/*.py")}), []
+
+
 # ---- the versions that are installed
 
 def of_version(number):
@@ -181,4 +187,4 @@ def works(python):
         yield name, None if is_right else f"status {ran.returncode}: {ran.stdout}{ran.stderr}"
 
 
-Tests = case.tests(__name__, files, uses, *map(of_version, range(OLDEST[1], NEWEST[1] + 1)))
+Tests = case.tests(__name__, files, uses, names, *map(of_version, range(OLDEST[1], NEWEST[1] + 1)))

@@ -12,7 +12,7 @@ import case
 from case import TOP
 
 PAGES = ["README.md", "docs/commands.md", "docs/specifications.md"]
-TOOLS = {"berkeley-abc": r"berkeley-abc|small", "dot": r"\.svg", "yosys": r"yosys"}  # and the commands that need them
+TOOLS = {"berkeley-abc": r"berkeley-abc|circuit small|small\.aig", "dot": r"\.svg", "yosys": r"yosys|verilog\.aag"}  # and the commands that need them
 
 
 def sessions(page):

@@ -1,5 +1,5 @@
-"""Checks share/: the manual page and the completions are those that tools/share makes of the program's help texts, and the tools
-that read them, if they are installed, find no fault in them."""
+"""Checks share/: the manual pages and the completions are those that tools/share makes of the help texts of the program and the tools; and what
+reads them, if it is installed, finds no fault in them."""
 import pathlib
 import shutil
 import subprocess
@@ -10,14 +10,11 @@ import case
 from case import TOP
 
 SHARE = TOP / "share"
-BASH = SHARE / "bash-completion/completions/parsolve"
-FISH = SHARE / "fish/vendor_completions.d/parsolve.fish"
-READERS = [  # each must read its file and print nothing
-    ["bash", "-n", BASH],
-    ["zsh", "-n", SHARE / "zsh/site-functions/_parsolve"],
-    ["fish", "-n", FISH],
-    ["groff", "-man", "-Tutf8", "-ww", "-z", SHARE / "man/man1/parsolve.1"],
-]
+BASH, FISH = SHARE / "bash-completion/completions", SHARE / "fish/vendor_completions.d"
+READERS = {  # each must read its files and print nothing
+    "bash -n": BASH.glob("*"), "zsh -n": SHARE.glob("zsh/site-functions/*"), "fish -n": FISH.glob("*"),
+    "groff -man -Tutf8 -ww -z": SHARE.glob("man/man1/*"),
+}
 COMMANDS = ["automaton", "check", "game", "means", "measure", "replay", "solve", "synth", "verify", "worker"]
 # words that were typed, the last of which is completed, and what must be offered
 TYPED = [(["parsolve", ""], [*COMMANDS, "--help", "--version", "-h", "-V"]), (["parsolve", "s"], ["solve", "synth"]),
@@ -29,7 +26,10 @@ TYPED = [(["parsolve", ""], [*COMMANDS, "--help", "--version", "-h", "-V"]), (["
          (["parsolve", "worker", "--p"], ["--port"]), (["parsolve", "solve", "--workers", ""], []),
          (["parsolve", "solve", "--apart", "examples/mor"], ["examples/mortal-worker"]),
          (["parsolve", "solve", "examples/tw"], ["examples/two.pg"]), (["parsolve", "worker", "examples/tw"], []),
-         (["parsolve", "check", "examples/two.pg", "examples/mutex.so"], ["examples/mutex.solution"])]
+         (["parsolve", "check", "examples/two.pg", "examples/mutex.so"], ["examples/mutex.solution"]),
+         (["parsolve-circuit", "s"], ["simulate", "small"]), (["parsolve-circuit", "play", "--"], ["--letters", "--circuit", "--program", "--help"]),
+         (["parsolve-circuit", "small", "examples/del"], ["examples/delay.hoa"]), (["parsolve-pg", "--"], ["--min", "--help"]),
+         (["parsolve-pg", "examples/tw"], ["examples/two.pg"]), (["parsolve-tlsf", "--f"], ["--formula"])]
 
 
 def made(program):
@@ -45,22 +45,24 @@ def made(program):
 
 def read():
     """(what is checked, result, wanted result) for each tool that reads one of them."""
-    for words in READERS:
-        if case.lacking(words[0]):
-            yield f"{words[0]} reads {words[-1].name}", case.lacking(words[0])
-            continue
-        ran = subprocess.run(words, capture_output=True, text=True, timeout=60)
-        yield f"{words[0]} reads {words[-1].name}", (ran.returncode, ran.stdout, ran.stderr), (0, "", "")
+    for reader, paths in READERS.items():
+        name, *words = reader.split()
+        for path in sorted(paths):
+            if case.lacking(name):
+                yield f"{name} reads {path.name}", case.lacking(name)
+                continue
+            ran = subprocess.run([name, *words, path], capture_output=True, text=True, timeout=60)
+            yield f"{name} reads {path.name}", (ran.returncode, ran.stdout, ran.stderr), (0, "", "")
 
 
 def completed():
     """The same for what bash and fish offer, fish if it is installed."""
     for typed, wanted in TYPED:
-        script = 'source "$1"; shift; COMP_WORDS=("$@"); COMP_CWORD=$(($# - 1)); _parsolve; printf "%s\\n" "${COMPREPLY[@]}"'
-        ran = subprocess.run(["bash", "-c", script, "bash", BASH, *typed], cwd=TOP, capture_output=True, text=True, timeout=60)
+        script = f'source "$1"; shift; COMP_WORDS=("$@"); COMP_CWORD=$(($# - 1)); _{typed[0].replace("-", "_")}; printf "%s\\n" "${{COMPREPLY[@]}}"'
+        ran = subprocess.run(["bash", "-c", script, "bash", BASH / typed[0], *typed], cwd=TOP, capture_output=True, text=True, timeout=60)
         yield f"bash completes {typed}", sorted(ran.stdout.split()), sorted(wanted)
         if shutil.which("fish") and typed[-1][:1] != "-" and wanted and typed[-1]:
-            script = f"source {FISH}; complete -C '{' '.join(typed)}'"
+            script = f"source {FISH / typed[0]}.fish; complete -C '{' '.join(typed)}'"
             ran = subprocess.run(["fish", "-c", script], cwd=TOP, capture_output=True, text=True, timeout=60)
             yield f"fish completes {typed}", sorted(line.split("\t")[0] for line in ran.stdout.splitlines()), sorted(wanted)
 

@@ -4,6 +4,7 @@ The expected results were worked out by hand. For random circuits and automata t
 at every pair of steps."""
 import os
 import pathlib
+import pty
 import random
 import re
 import shlex
@@ -13,7 +14,11 @@ import tempfile
 
 import case
 import controllers
+import formulas
 from case import TOP
+
+sys.path.insert(0, str(TOP / "tools"))
+import ltl  # noqa: E402
 
 
 # the output is the input of the step before, kept in one latch
@@ -61,7 +66,8 @@ PLAYED = {
     "foresight": ("grant\n\ngrant\n", "0: - | ..\n0: - | grant | 2 {}\n1: - | ..\n1: - | - | no edge\n"),
 }
 REFUSED = {
-    "UNREALIZABLE\n": "it begins neither with aag nor with aig",
+    "REALIZABLE\n": "it begins neither with aag nor with aig",
+    "UNREALIZABLE\n": "it says UNREALIZABLE, and no circuit follows; synth --counter prints one",
     "aig 1 0 0 0\n": "line 1 is damaged",
     "aig 2 1 0 0 0\n": "line 1 is damaged",
     "aig 4000000000 4000000000 0 0 0\n": "line 1 is damaged",
@@ -150,21 +156,31 @@ def plays():
 
 
 def waves_of(text):
-    """The values of each name of a VCD file in each step, by the names as the file has them."""
+    """The values of each name of a VCD file in each step, by the names as the file has them; those of latches begin with `latches.`. The clock
+    rises when a step begins, every 10 ns, and falls in the middle of it."""
     head, body = text.split("$enddefinitions $end\n")
-    names, steps, now = dict(re.findall(r"^\$var wire 1 (\S+) (\S+) \$end$", head, re.M)), [], {}
-    for part in re.split(r"^#", body, flags=re.M)[1:]:
+    names, scopes, steps, now = {}, [], [], {}
+    for line in head.splitlines():
+        word, *rest = line.split()
+        if word in ("$scope", "$upscope"):
+            scopes = [*scopes, rest[1]] if word == "$scope" else scopes[:-1]
+        elif word == "$var":
+            names[rest[2]] = ".".join([*scopes[1:], rest[3]])
+    for number, part in enumerate(re.split(r"^#", body, flags=re.M)[1:]):
         time, *changes = part.split()
-        if int(time) != len(steps):
-            return f"time {time} after {len(steps)} steps"
+        if int(time) != 5 * number:
+            return [f"time {time} is number {number}"]
         now = {**now, **{names[change[1:]]: change[0] for change in changes}}
-        steps.append(now)
-    return steps[:-1]
+        if now["clock"] != str(1 - number % 2) and changes:
+            return [f"the clock is {now['clock']} at time {time}"]
+        steps += [now] if number % 2 == 0 and changes else []
+    return steps
 
 
 def drawn_inputs():
     """The same for random inputs, and waves: the lines are those that the same inputs give, and the waves have the values of the lines."""
-    for circuit, names in ((DELAY, {"request": "request", "grant": "grant"}), (WIDE, {"a b": "'a b'", "t": "t", "o1": "o1"})):
+    with_latch = DELAY.replace("i0", "l0 asked before\ni0")
+    for circuit, names in ((with_latch, {"request": "request", "grant": "grant"}), (WIDE, {"a b": "'a b'", "t": "t", "o1": "o1"})):
         with tempfile.TemporaryDirectory() as folder:
             pathlib.Path(folder, "circuit").write_text(circuit)
             words = [sys.executable, TOP / "tools/circuit", "simulate", "circuit", "--random", "20", "7", "--vcd", "waves"]
@@ -178,6 +194,120 @@ def drawn_inputs():
         for name in names:
             wanted = [str(int(name in those)) for those in held]
             yield f"the waves of {name}", [step[name.replace(" ", "_")] for step in waves], wanted
+            if name == "request":
+                yield "the waves of the latch", [step["latches.asked_before"] for step in waves], ["0", *wanted[:-1]]
+
+
+# the environment's side of delay.hoa, for a circuit that repeats the last grant, and asks after a step without one
+COUNTER = "UNREALIZABLE\naag 2 1 1 1 0\n2\n4 2\n5\ni0 grant\no0 request\n"
+FORMULA = "!grant;\nG (request -> X grant);\nG !(grant & request) & G F request;\n"
+KEPT = DELAY.replace("i0", "l0 kept\ni0")
+
+
+def compared(circuit, verdict, *words, formula=None, automaton=None):
+    """(status, output without the heading, error stream) of the tool on the inputs of a verdict."""
+    with tempfile.TemporaryDirectory() as made:
+        folder = pathlib.Path(made)
+        for name, text in (("circuit", circuit), ("verdict", verdict), ("formula", formula), ("automaton", automaton)):
+            if text is not None:
+                (folder / name).write_text(text)
+        more = (["--ltl", "formula"] if formula is not None else []) + (["--automaton", "automaton"] if automaton is not None else [])
+        ran = subprocess.run([sys.executable, TOP / "tools/circuit", "simulate", "circuit", "--verdict", "verdict", *more, *words], cwd=folder,
+                             capture_output=True, text=True, timeout=60)
+    return ran.returncode, ran.stdout.partition("\n")[2], ran.stderr
+
+
+def verdicts():
+    """(what is checked, result, wanted result) for the inputs of verdicts, and for the parts of formulas."""
+    yield ("STUCK", compared(NEGATED, "STUCK\n1\n0\n", automaton=example("delay")),
+           (0, "0: request | grant | no edge\n1: - | - | ended\n", ""))
+    yield ("REJECTED", compared(NEGATED, "REJECTED\n1\nloop\n1\n", automaton=example("request-grant")),
+           (0, "0: request | grant | 1 {0}\n1: request | - | 1 {1} | rejecting loop: steps 1 to 1\n", ""))
+    yield ("FAILS", compared(COUNTER, "FAILS\nloop\n0\n", automaton=example("request-grant")),
+           (0, "0: - | request | 1 {0}\n1: - | request | 1 {1}\n", ""))
+    yield ("an accepting loop", compared(COUNTER, "FAILS\n1\nloop\n1\n0\n", automaton=example("request-grant"))[1].splitlines(),
+           ["0: grant | request | 1 {0}", "1: grant | - | 0 {0}", "2: - | - | 0 {0} | accepting loop: steps 0 to 2",
+            "3: grant | request | 1 {0} | accepting loop: steps 1 to 3", "4: - | - | 0 {1}"])
+    opponent = COUNTER.partition("\n")[2]
+    yield ("FAILS, without UNREALIZABLE", compared(opponent, "FAILS\n1\nloop\n1\n0\n", automaton=example("request-grant"))[1].splitlines()[2],
+           "2: - | - | 0 {0} | accepting loop: steps 0 to 2")
+    yield ("no input", compared("aag 1 0 1 1 0\n2 3\n2\no0 o\n", "REJECTED\nloop\n\n"), (0, "0: - | -\n1: - | o\n", ""))
+    for verdict in ("ACCEPTED\n", "REFUTES\n"):
+        yield verdict, compared(DELAY, verdict)[::2], (1, f"circuit: verdict: {verdict.strip()} comes without inputs, so there is nothing to run\n")
+    for verdict in ("", "WINS\n", "STUCK\nloop\n0\n", "REJECTED\n0\n"):
+        yield (verdict, compared(DELAY, verdict)[::2],
+               (1, "circuit: verdict: a verdict with inputs begins with STUCK; or with REJECTED or FAILS, and has a line loop\n"))
+    yield ("another circuit's", compared(DELAY, "STUCK\n01\n")[::2], (1, "circuit: verdict: '01' doesn't have a 0 or a 1 for each of 1 inputs\n"))
+
+
+def parts_of_formulas():
+    """The same for the parts of formulas that fail: which of them, and when."""
+    said = ("0: request | grant\n1: request | -\n2: - | -\n3: - | grant\n4: request | grant\nsteps 1 to 4 repeat for ever\n"
+            "part 1 of 4 fails at step 0: !grant\npart 3 of 4 fails at step 0: G !(grant & request)\n"
+            "part 2 of 4 fails at step 1: G (request -> X grant)\n")
+    yield "which fails first", compared(NEGATED, "REJECTED\n1\nloop\n1\n0\n0\n1\n", formula=FORMULA), (0, said, "")
+    yield ("an endless run", compared(DELAY, "REJECTED\nloop\n0\n", formula=FORMULA)[1],
+           "0: - | -\nstep 0 repeats for ever\npart 4 of 4 fails as step 0 repeats for ever: G F request\n")
+    yield ("an assumption", compared(DELAY, "REJECTED\n1\nloop\n0\n1\n", formula="G F request -> G (grant -> X grant)")[1].splitlines()[-1],
+           "the formula fails at step 2: G F request -> G (grant -> X grant)")
+    yield "a latch", compared(KEPT, "REJECTED\nloop\n1\n", formula="G !kept")[1].splitlines()[-1], "the formula fails at step 1: G !kept"
+    yield "none", compared(DELAY, "REJECTED\nloop\n1\n", formula="F grant")[1].splitlines()[-1], "the run satisfies the formula"
+    yield "deep", compared(DELAY, "REJECTED\nloop\n1\n", formula="!X" * 2000 + " 1")[1].splitlines()[-1], "the run satisfies the formula"
+    yield "perhaps later", compared(DELAY, "STUCK\n0\n", formula="F grant")[1].splitlines()[-1], "no step shows that the formula fails"
+    for formula, told in (("G ask", "the circuit has no input, output or latch named ask; there are: request, grant, l0"),
+                          ("G (grant", "syntax error at byte 8"), ("grant grant", "syntax error at byte 6"), ("", "syntax error at byte 0"),
+                          ("\u00e9", "syntax error at byte 0"),
+                          ("(" * 20_000, "the formula has too many brackets inside one another"), ("\"\u00e9\" X", "syntax error at byte 5")):
+        yield formula, compared(DELAY, "STUCK\n0\n", formula=formula)[::2], (1, f"circuit: formula: {told}\n")
+
+
+def why_misread(dice, names):
+    """Why the tool is wrong about a random formula and a random run, or None."""
+    formula, (word, back) = formulas.random_formula(dice, dice.randint(1, 5), names), formulas.random_word(dice, names)
+    if ltl.read_formula(ltl.spelt(formula).encode()) != formula:
+        return f"{formula} is spelt {ltl.spelt(formula)}"
+    if ltl.truths(formula, word, back) != formulas.truths(formula, word, back):
+        return f"{formula} on {word}, back to {back}: {ltl.truths(formula, word, back)}"
+    failing = {it.number for it in ltl.failures(formula, word, back)}
+    if failing != {place for place, it in enumerate(ltl.parts(formula), 1) if not formulas.satisfies(it, word, back)}:
+        return f"{formula} on {word}, back to {back}: {failing} fail"
+    if (not failing) != formulas.satisfies(formula, word, back):
+        return f"the parts of {formula} say something else"
+    certain = {it.number for it in ltl.failures(formula, word)}
+    other = {it.number for it in ltl.failures(formula, word, dice.randrange(len(word)))}
+    return None if certain <= other else f"{formula} on {word}: {certain} fail for certain, and {other} in the end"
+
+
+def formulas_at_random():
+    """Random formulas on random runs: what the tool works out agrees with a plain evaluator."""
+    dice = random.Random(3)
+    yield "random formulas", next(filter(None, (why_misread(dice, ["a", "Fx", "c d", "U1"]) for _ in range(1000))), None)
+
+
+def plays_with_circuits():
+    """The same for plays against a given circuit, on either side, and for one that can't play the environment."""
+    for what, circuit, letters, steps in (
+            ("the environment", COUNTER, "\ngrant\n", "0: request | ..\n0: request | - | 1 {0}\n1: request | ..\n1: request | grant | 1 {0}\n2: - | ..\n"),
+            ("the controller", DELAY, "request\n", "0: request | - | 1 {0}\n")):
+        with tempfile.TemporaryDirectory() as folder:
+            pathlib.Path(folder, "circuit").write_text(circuit)
+            ran = subprocess.run([sys.executable, TOP / "tools/circuit", "play", "--circuit", "circuit", TOP / "examples/delay.hoa"], cwd=folder,
+                                 input=letters, capture_output=True, text=True, timeout=60)
+        yield f"a play against {what}", (ran.returncode, ran.stdout.partition("{sets}\n")[2], ran.stderr), (0, steps, "")
+
+
+def typed_again():
+    """At a keyboard a line with a wrong name may be typed again; in a pipe it ends the run."""
+    with tempfile.TemporaryDirectory() as folder:
+        pathlib.Path(folder, "circuit").write_text(DELAY)
+        keyboard, terminal = pty.openpty()
+        os.write(keyboard, b"ask\nrequest\n\x04")
+        ran = subprocess.run([sys.executable, TOP / "tools/circuit", "simulate", "circuit"], cwd=folder, stdin=terminal, capture_output=True, text=True,
+                             timeout=60)
+        os.close(keyboard)
+        os.close(terminal)
+    yield ("a line typed again", (ran.returncode, ran.stdout, ran.stderr),
+           (0, f"{HEAD}\n0: request | -\n", "circuit: line 1: no input is named ask; there are: request; type the line again\n"))
 
 
 # a stand-in for ABC: it prints SAID about the circuits, and its circuit is the one in the file SMALL
@@ -316,4 +446,5 @@ def printed(program):
         yield name, (status, len(output.splitlines()), bad), (0, 201, [])
 
 
-Tests = case.tests(__name__, by_hand, plays, drawn_inputs, made_smaller, refusals, at_random, printed)
+Tests = case.tests(__name__, by_hand, plays, plays_with_circuits, typed_again, drawn_inputs, verdicts, parts_of_formulas, formulas_at_random, made_smaller,
+                   refusals, at_random, printed)

@@ -13,7 +13,7 @@ class Circuit(NamedTuple):
     latches: list  # (latch, the literal that it takes over)
     outputs: list
     gates: list  # (gate, greater operand, lesser operand), each after those that it uses
-    names: dict  # by `i0`, `i1`, .. and `o0`, ..
+    names: dict  # by `i0`, `i1`, .. and `l0`, .. and `o0`, ..
 
 
 def numbers_of(line, count, number):
@@ -117,7 +117,9 @@ def read_binary(text):
 
 def read_circuit(text):
     """A circuit in either form; its variables are put in order: inputs, latches, gates, each after those that it uses."""
-    text = text[len(b"REALIZABLE\n"):] if text.startswith(b"REALIZABLE\n") else text
+    if text == b"UNREALIZABLE\n":
+        raise Fault("it says UNREALIZABLE, and no circuit follows; synth --counter prints one")
+    text = text[text.index(b"\n") + 1:] if text.startswith((b"REALIZABLE\n", b"UNREALIZABLE\n")) else text
     if not text.startswith((b"aag ", b"aig ")):
         raise Fault("it begins neither with aag nor with aig")
     circuit = read_ascii(text) if text.startswith(b"aag ") else read_binary(text)

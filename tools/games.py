@@ -54,9 +54,16 @@ def tokens_of(text, *clauses):
     return tokens, numbers
 
 
+def refuse_dead_end(number, owner, place):
+    raise Fault(f"vertex {number} has no successor at byte {place}: a dead end isn't read. If its owner loses there, give it itself as its successor "
+                f"and the priority {1 - owner}")
+
+
 def read_vertex(tokens):
     """The identifier and the vertex of a line."""
     number, priority, owner = tokens.take("number"), tokens.take_below(GREATEST_PRIORITY + 1), tokens.take_below(2)
+    if tokens.kind == "string" or tokens.bytes == b";":
+        refuse_dead_end(number, owner, tokens.place)
     successors = {tokens.take("number")}
     while tokens.bytes == b",":
         tokens.go_on()
@@ -98,8 +105,10 @@ def read_solution(text, game):
             raise Fault(f"line of vertex {number} does not fit the game")
         solution[number] = Answer(winner, choice if winner == vertex.owner else None)
     for number, vertex in game.vertices.items():
-        if number not in solution or solution[number] == (vertex.owner, None):
+        if number not in solution:
             raise Fault(f"vertex {number} has no answer")
+        if solution[number] == (vertex.owner, None):
+            raise Fault(f"the line of vertex {number} has no successor: a winner that owns a vertex needs a strategy there, not only its name")
     return solution
 
 

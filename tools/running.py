@@ -1,6 +1,7 @@
 """Runs of circuits, and of automata beside them: the steps, the loops that are closed, and waves in the VCD format."""
 import bisect
 import re
+from typing import NamedTuple
 
 from texts import Fault
 
@@ -9,7 +10,7 @@ MARKS = "".join(map(chr, range(33, 127)))  # of which the short names of VCD are
 
 
 def names_in(circuit, kind, count):
-    """The names of the inputs (`i`) or outputs (`o`), in their order."""
+    """The names of the inputs (`i`), outputs (`o`) or latches (`l`), in their order."""
     return [circuit.names.get(f"{kind}{place}", f"{kind}{place}") for place in range(count)]
 
 
@@ -19,17 +20,21 @@ class Simulation:
     def __init__(self, circuit):
         self.circuit, self.known = circuit, {}
         self.inputs, self.outputs = names_in(circuit, "i", len(circuit.inputs)), names_in(circuit, "o", len(circuit.outputs))
-        self.latches = (0,) * len(circuit.latches)
+        self.latches, self.registers = (0,) * len(circuit.latches), names_in(circuit, "l", len(circuit.latches))
 
     def step(self, held):
         """Makes the step in which the inputs of these names hold; answers the names of the outputs that do."""
+        self.latches, outputs = self.after(held)
+        return outputs
+
+    def after(self, held):
+        """The latches after that step, and the outputs that hold in it; the run stays where it is."""
         key = self.latches, *sorted(held)
         if key not in self.known:
             if len(self.known) == MOST_KNOWN:
                 self.known.clear()
             self.known[key] = self.computed({*held})
-        self.latches, outputs = self.known[key]
-        return outputs
+        return self.known[key]
 
     def computed(self, held):
         """The latches after a step, and the outputs that hold in it."""
@@ -41,6 +46,15 @@ class Simulation:
             values += (both, 1 - both)
         outputs = [name for name, literal in zip(self.outputs, self.circuit.outputs) if values[literal]]
         return tuple(values[after] for _, after in self.circuit.latches), outputs
+
+
+class Step(NamedTuple):
+    """A step of a run: the names of the inputs and outputs that hold, the latches in the step, and the text about the automaton, if there is
+    one."""
+    inputs: list
+    outputs: list
+    latches: tuple
+    told: list
 
 
 class Loops:
@@ -112,29 +126,33 @@ class Run:
 
 
 class Waves:
-    """The values of inputs and outputs, step by step, written to a file in the VCD format; a step takes a nanosecond."""
+    """A run, step by step, written to a file in the VCD format: the clock, inputs and outputs, and the latches in a scope of their own. A step
+    takes 10 ns. It begins when the clock rises, and the clock falls in the middle of it."""
 
-    def __init__(self, file, names):
-        self.file, self.steps, self.marks, self.held = file, 0, {}, None
+    def __init__(self, file, signals, latches):
+        self.file, self.steps, self.held, self.names = file, 0, None, [*signals, *latches]
+        clock = "clock"
+        while clock in signals:
+            clock += "_"
         print("$timescale 1 ns $end\n$scope module circuit $end", file=file)
-        for number, name in enumerate(names):
-            mark = self.mark(number)
-            self.marks.setdefault(name, []).append(mark)
-            print(f"$var wire 1 {mark} {re.sub(r'[^!-~]', '_', name)} $end", file=file)
-        print("$upscope $end\n$enddefinitions $end", file=file)
+        for number, name in enumerate([clock, *self.names]):
+            if number == 1 + len(signals):
+                print("$scope module latches $end", file=file)
+            print(f"$var wire 1 {self.mark(number)} {re.sub(r'[^!-~]', '_', name)} $end", file=file)
+        print("$upscope $end\n" * (1 + (len(latches) > 0)) + "$enddefinitions $end", file=file)
 
     def mark(self, number):
         made = MARKS[number % len(MARKS)]
         return made if number < len(MARKS) else self.mark(number // len(MARKS) - 1) + made
 
     def step(self, held):
-        """Writes what changes in the step in which these hold."""
-        print(f"#{self.steps}", file=self.file)
-        for name, marks in self.marks.items():
-            if self.held is None or (name in held) != (name in self.held):
-                for mark in marks:
-                    print(f"{int(name in held)}{mark}", file=self.file)
-        self.steps, self.held = self.steps + 1, {*held}
+        """Writes what changes in the step, which has a bit for each signal and each latch."""
+        print(f"#{10 * self.steps}\n1{self.mark(0)}", file=self.file)
+        for number, bit in enumerate(held):
+            if self.held is None or bit != self.held[number]:
+                print(f"{bit}{self.mark(1 + number)}", file=self.file)
+        print(f"#{10 * self.steps + 5}\n0{self.mark(0)}", file=self.file)
+        self.steps, self.held = self.steps + 1, held
 
     def end(self):
-        print(f"#{self.steps}", file=self.file, flush=True)
+        print(f"#{10 * self.steps}", file=self.file, flush=True)

@@ -102,8 +102,9 @@ def of(path, read, *words):
         raise Fault(f"{'standard input' if path == '-' else path}: {fault}")
 
 
-def printed_by(command, text, seconds=None, folder=None):
-    """The output of a program for an input, run in a folder; if it fails, the last line of its error stream is the fault."""
+def printed_by(command, text, seconds=None, folder=None, told=None):
+    """The output of a program for an input, run in a folder; if it fails, the last line of its error stream is the fault. If it doesn't, the
+    lines of its error stream go into the list `told`."""
     try:
         ran = subprocess.run(command, input=text, stdout=subprocess.PIPE, stderr=subprocess.PIPE, timeout=seconds, cwd=folder)
     except subprocess.TimeoutExpired:
@@ -111,8 +112,10 @@ def printed_by(command, text, seconds=None, folder=None):
     except OSError as error:
         raise Fault(f"{command[0]} can't be started: {error.strerror}")
     if ran.returncode:
-        told = shown(ran.stderr.strip().rpartition(b"\n")[2])
-        raise Fault(re.sub("^parsolve: ", "", told) or f"{command[0]} failed with status {ran.returncode}")
+        last = shown(ran.stderr.strip().rpartition(b"\n")[2])
+        raise Fault(re.sub("^parsolve: ", "", last) or f"{command[0]} failed with status {ran.returncode}")
+    if told is not None:
+        told += map(shown, ran.stderr.splitlines())
     return ran.stdout
 
 

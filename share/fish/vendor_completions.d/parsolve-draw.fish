@@ -1,0 +1,10 @@
+# fish completion of parsolve-draw
+complete -c parsolve-draw -s h -l help -d 'show this help message and exit'
+complete -c parsolve-draw -l automaton -r -F -d 'the automaton whose game it is; its words label the picture'
+complete -c parsolve-draw -l all -d 'draw every vertex and edge, not only what the solution reaches'
+complete -c parsolve-draw -l from -r -F -d 'draw what is reached from this vertex'
+complete -c parsolve-draw -l depth -r -F -d 'draw what is reached in this many steps'
+complete -c parsolve-draw -l text -d 'write the strategy in words'
+complete -c parsolve-draw -l dot -d 'write the input of dot, which then needn\'t be installed'
+complete -c parsolve-draw -l replay -d 'write the table of a game and a script'
+complete -c parsolve-draw -l program -r -F -d 'with --replay, the program to run in place of parsolve'
