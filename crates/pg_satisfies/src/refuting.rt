@@ -184,7 +184,7 @@ fn proposed(
 ) -> Result<(CircuitPieces, SatisfactionProposal), AllocError> {
     let inputs = marked_inputs(alloc, question.netlist.input_literals(), marks)?;
     let mut circuit = CircuitPieces::new(alloc, system, &inputs, propositions)?;
-    let proposal = propose(&mut circuit, &inputs, question.nodes, place, LIMITS)?;
+    let proposal = propose(&mut circuit, question.nodes, place, LIMITS)?;
     Ok((circuit, proposal))
 }
 

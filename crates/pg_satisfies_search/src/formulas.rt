@@ -8,6 +8,7 @@ use crate::bits::{Bits, LetterCube, ROOM};
 use crate::budget::{SearchLimit, SearchResult, SearchStop};
 use crate::machine::CircuitMachine;
 use crate::numbers::{NONE, count, item, put};
+use crate::trace::{located, position_in};
 use indexmap::IndexSet;
 use pg_ltl::NormalNode;
 use std::alloc::{AllocError, Global};
@@ -21,6 +22,8 @@ pub struct Formulas {
     nodes: Vec<NormalNode>,
     /// For each proposition, what it says if it holds.
     literals: Vec<LetterCube>,
+    /// The signals of which all literals say the same, and what they say.
+    pure: LetterCube,
     /// The position of each formula that has a number.
     positions: Vec<usize>,
     /// The number of the formula at each position, or `NONE`.
@@ -58,19 +61,51 @@ fn is_made_below(node: NormalNode, position: usize) -> bool
 }
 
 /// Returns the formula at a place of a list.
-fn node_at(nodes: &[NormalNode], place: usize) -> NormalNode {
+pub fn node_at(nodes: &[NormalNode], place: usize) -> NormalNode {
     nodes.get(place).copied().unwrap_or(NormalNode::Bottom)
 }
 
-/// Returns the places of the parts of the formula at the place `root`, in rising order.
-fn parts_of(alloc: Global, nodes: &[NormalNode], root: usize) -> Result<Vec<usize>, AllocError> {
+/// Returns the formula at a place of a list, or the true formula if the place is left out.
+fn node_without(nodes: &[NormalNode], place: usize, left_out: &[usize]) -> NormalNode {
+    if left_out.binary_search(&place).is_ok() {
+        return NormalNode::Top;
+    }
+    node_at(nodes, place)
+}
+
+/// Returns the propositions of the formula at the place `root`, in rising order, where these parts are left out.
+pub fn propositions_of(
+    alloc: Global,
+    nodes: &[NormalNode],
+    root: usize,
+    left_out: &[usize],
+) -> Result<Vec<u32>, AllocError> {
+    let mut found = Vec::new(alloc);
+    for place in &parts_of(alloc, nodes, root, left_out)? {
+        if let NormalNode::Literal(p, _) = node_without(nodes, *place, left_out) {
+            found.push(p)?;
+        }
+    }
+    found.sort_unstable();
+    found.dedup();
+    Ok(found)
+}
+
+/// Returns the places of the parts of the formula at the place `root`, in rising order, where those in a rising list are left out: they
+/// count as true.
+pub fn parts_of(
+    alloc: Global,
+    nodes: &[NormalNode],
+    root: usize,
+    left_out: &[usize],
+) -> Result<Vec<usize>, AllocError> {
     let mut met = IndexSet::new(alloc);
     let _ = met.insert_full(root)?;
     for turn in 0..nodes.len() {
         let Some(place) = met.get_index(turn).copied() else {
             break;
         };
-        for operand in operands(node_at(nodes, place)) {
+        for operand in operands(node_without(nodes, place, left_out)) {
             if let Some(below) = operand {
                 let _ = met.insert_full(below)?;
             }
@@ -82,17 +117,20 @@ fn parts_of(alloc: Global, nodes: &[NormalNode], root: usize) -> Result<Vec<usiz
 }
 
 impl Formulas {
-    /// Looks at the parts of the formula at the place `root` of a list. Fails if the tableau may ask for more than 256 of them.
+    /// Looks at the parts of the formula at the place `root` of a list, where those in a rising list of places are left out. Fails if the
+    /// tableau may ask for more than 256 of them.
     pub fn new(
         alloc: Global,
         machine: &CircuitMachine,
         nodes: &[NormalNode],
         root: usize,
+        left_out: &[usize],
     ) -> SearchResult<Formulas> {
-        let places = parts_of(alloc, nodes, root)?;
+        let places = parts_of(alloc, nodes, root, left_out)?;
         let mut formulas = Formulas {
             nodes: Vec::with_capacity(alloc, places.len())?,
             literals: Vec::with_capacity(alloc, machine.system.literals.len())?,
+            pure: LetterCube::FREE,
             positions: Vec::new(alloc),
             numbers: vec![in alloc; NONE; places.len()]?,
             now: Vec::with_capacity(alloc, places.len())?,
@@ -104,7 +142,8 @@ impl Formulas {
                 .literals
                 .push(machine.signals.cube(*literal, true))?;
         }
-        formulas.read(nodes)?;
+        formulas.read(nodes, left_out)?;
+        formulas.pure = formulas.unopposed();
         let whole = formulas.root();
         formulas.number(whole)?;
         for position in 0..formulas.nodes.len() {
@@ -119,9 +158,10 @@ impl Formulas {
     }
 
     /// Notes the parts, and the signals on which their choices depend.
-    fn read(&mut self, nodes: &[NormalNode]) -> Result<(), AllocError> {
+    fn read(&mut self, nodes: &[NormalNode], left_out: &[usize]) -> Result<(), AllocError> {
         for position in 0..self.places.len() {
-            let node = self.by_position(node_at(nodes, self.places[position]));
+            let node = node_without(nodes, self.places[position], left_out);
+            let node = located(&self.places, node);
             let now = self.signals_of(node);
             self.nodes.push(node)?;
             self.now.push(now)?;
@@ -131,19 +171,7 @@ impl Formulas {
 
     /// Returns the position of the part at a place of the list that the formula came with, or `usize::MAX` if there is none.
     pub fn position(&self, place: usize) -> usize {
-        self.places.binary_search(&place).unwrap_or(usize::MAX)
-    }
-
-    /// Returns a part with operands by position.
-    fn by_position(&self, node: NormalNode) -> NormalNode {
-        match node {
-            NormalNode::Both(a, b) => NormalNode::Both(self.position(a), self.position(b)),
-            NormalNode::Either(a, b) => NormalNode::Either(self.position(a), self.position(b)),
-            NormalNode::Next(a) => NormalNode::Next(self.position(a)),
-            NormalNode::Until(a, b) => NormalNode::Until(self.position(a), self.position(b)),
-            NormalNode::Release(a, b) => NormalNode::Release(self.position(a), self.position(b)),
-            leaf => leaf,
-        }
+        position_in(&self.places, place)
     }
 
     /// Returns the position of the whole formula.
@@ -209,6 +237,28 @@ impl Formulas {
             known: cube.known,
             on: cube.known.without(cube.on),
         }
+    }
+
+    /// Returns the signals of which all literals say the same, and what they say.
+    fn unopposed(&self) -> LetterCube {
+        let mut on = Bits::EMPTY;
+        let mut off = Bits::EMPTY;
+        for node in &self.nodes {
+            if let NormalNode::Literal(p, value) = *node {
+                let says = self.literal(p, value);
+                on = on.or(says.on);
+                off = off.or(says.known.without(says.on));
+            }
+        }
+        LetterCube {
+            known: on.or(off).without(on.and(off)),
+            on: on.without(off),
+        }
+    }
+
+    /// Whether no literal says the contrary. Where nothing is known of its signal, such a literal costs nothing.
+    pub fn is_pure(&self, says: LetterCube) -> bool {
+        says.is_within(self.pure)
     }
 
     /// Returns the set that asks for the formula at a position.
@@ -281,6 +331,38 @@ impl Formulas {
             signals = signals.or(self.now(self.asked(number)));
         }
         signals
+    }
+
+    /// Takes formulas apart that are conjunctions, now or in each step from now on. Returns what they ask for in any case, and the
+    /// positions of the parts.
+    pub fn taken_apart(&self, alloc: Global, set: Bits) -> Result<(Bits, Vec<usize>), AllocError> {
+        let mut asks = Bits::EMPTY;
+        let mut parts = Vec::new(alloc);
+        let mut open = Vec::new(alloc);
+        let mut rest = set;
+        for _ in 0..ROOM {
+            let Some(number) = rest.take() else {
+                break;
+            };
+            open.push(self.asked(number))?;
+        }
+        for _ in 0..u32::MAX {
+            let Some(position) = open.pop() else {
+                break;
+            };
+            match self.node_below(position) {
+                NormalNode::Both(a, b) => {
+                    open.push(b)?;
+                    open.push(a)?;
+                }
+                NormalNode::Release(a, b) if self.node(a) == NormalNode::Bottom => {
+                    asks = asks.or(self.bits(position));
+                    open.push(b)?;
+                }
+                _ => parts.push(position)?,
+            }
+        }
+        Ok((asks, parts))
     }
 
     /// Returns the position of the formula with a number.

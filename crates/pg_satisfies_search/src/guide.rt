@@ -140,7 +140,7 @@ impl<'a> SearchGuide<'a> {
         let machine = self.machine();
         let mut words = [0u64; STATE_WORDS];
         for latch in 0..count(machine.system.latches.len()) {
-            if item(row, latch, None)? {
+            if item(row, item(&machine.places, latch, NONE), None)? {
                 let word = item(&words, latch / 64, 0);
                 put(&mut words, latch / 64, word | 1u64.wrapping_shl(latch));
             }
@@ -156,8 +156,12 @@ impl<'a> SearchGuide<'a> {
             NormalNode::Top => true,
             NormalNode::Bottom | NormalNode::Next(_) => false,
             NormalNode::Literal(p, value) => {
-                let column = count(self.machine().system.latches.len()).saturating_add(p);
-                item(row, column, None) == Some(value)
+                let column = self.machine().latches.saturating_add(p);
+                let formulas = &found.product.tableau.formulas;
+                match item(row, column, None) {
+                    Some(known) => known == value,
+                    None => formulas.is_pure(formulas.literal(p, value)),
+                }
             }
             NormalNode::Both(a, b) | NormalNode::Release(a, b) => {
                 self.is_free(row, a) && self.is_free(row, b)

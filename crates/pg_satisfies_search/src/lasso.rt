@@ -1,6 +1,6 @@
 //! Ways in a product, and the lasso made of them.
 
-use crate::bits::{Bits, ROOM};
+use crate::bits::{Bits, LetterCube, ROOM};
 use crate::numbers::{count, item, put};
 use crate::pieces::CircuitPieces;
 use crate::product::{CircuitProduct, ProductArc};
@@ -25,7 +25,14 @@ enum EdgeCondition {
     Without(u32),
 }
 
-/// A way through a product: the signals that are true in each of its letters, where it is, and the Untils that every arc so far puts off.
+/// Letters of a lasso that have no value for inputs on which nothing depends.
+#[derive(Drop)]
+pub struct OpenLasso {
+    pub letters: Vec<Vec<Option<bool>>>,
+    pub back: usize,
+}
+
+/// A way through a product: what signals have to be in each of its letters, where it is, and the Untils that every arc so far puts off.
 #[derive(Drop)]
 struct ProductWay<'a> {
     circuit: &'a CircuitPieces,
@@ -33,7 +40,7 @@ struct ProductWay<'a> {
     ranks: &'a ProductRanks,
     /// The component in which the way has to stay, if there is one.
     inside: Option<u32>,
-    letters: Vec<Bits>,
+    letters: Vec<LetterCube>,
     at: u32,
     common: Bits,
 }
@@ -128,8 +135,8 @@ impl ProductWay<'_> {
         Ok(())
     }
 
-    /// Returns the letters as values of the inputs with these literals.
-    fn rows(&self, inputs: &[u32]) -> Result<Vec<Vec<bool>>, AllocError> {
+    /// Returns the letters as values of the inputs with these literals, as far as they matter.
+    fn rows(&self, inputs: &[u32]) -> Result<Vec<Vec<Option<bool>>>, AllocError> {
         let alloc = self.product.alloc;
         let circuit = self.circuit;
         let mut rows = Vec::with_capacity(alloc, self.letters.len())?;
@@ -137,7 +144,12 @@ impl ProductWay<'_> {
             let mut row = Vec::with_capacity(alloc, inputs.len())?;
             for literal in inputs {
                 let signal = circuit.machine.signals.of(*literal / 2);
-                row.push(letter.has(signal))?;
+                let is_known = letter.known.has(signal);
+                row.push(if is_known {
+                    Some(letter.on.has(signal))
+                } else {
+                    None
+                })?;
             }
             rows.push(row)?;
         }
@@ -162,7 +174,7 @@ pub fn lasso_of<'a>(
     ranks: &'a ProductRanks,
     component: u32,
     inputs: &[u32],
-) -> Result<InputLasso, AllocError> {
+) -> Result<OpenLasso, AllocError> {
     let root = root_of(ranks, component);
     let mut way = ProductWay {
         circuit,
@@ -179,7 +191,7 @@ pub fn lasso_of<'a>(
     let back = way.letters.len();
     way.inside = Some(component);
     way.go_round()?;
-    Ok(InputLasso {
+    Ok(OpenLasso {
         letters: way.rows(inputs)?,
         back,
     })

@@ -6,6 +6,7 @@
 mod bits;
 mod budget;
 mod choices;
+mod cone;
 mod formulas;
 mod guide;
 mod lanes;
@@ -17,8 +18,10 @@ mod product;
 mod proposal;
 mod rails;
 mod ranks;
+mod selection;
 mod signals;
 mod tableau;
+mod trace;
 
 pub use budget::{Limits, SearchLimit};
 pub use guide::{EmptyProduct, SearchGuide};

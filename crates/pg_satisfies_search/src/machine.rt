@@ -2,6 +2,7 @@
 
 use crate::bits::{LetterCube, ROOM};
 use crate::budget::{SearchLimit, SearchResult, SearchStop};
+use crate::cone::SystemCone;
 use crate::lanes::{has_bit, has_lane};
 use crate::numbers::{NONE, count, item, put};
 use crate::signals::Signals;
@@ -33,6 +34,9 @@ pub struct LetterOutcome {
 pub struct CircuitMachine {
     pub alloc: Global,
     pub system: CircuitPart,
+    /// The places of its latches in the system of which it is a part, and the number of latches there.
+    pub places: Vec<u32>,
+    pub latches: u32,
     pub signals: Signals,
     /// The place of the gate of each variable, or `NONE`.
     gates: Vec<u32>,
@@ -48,15 +52,6 @@ pub struct CircuitMachine {
     lanes: Vec<u64>,
 }
 
-/// Returns the same system once more.
-fn copied(alloc: Global, system: &CircuitPart) -> Result<CircuitPart, AllocError> {
-    Ok(CircuitPart {
-        gates: Vec::from_slice(alloc, &system.gates)?,
-        latches: Vec::from_slice(alloc, &system.latches)?,
-        literals: Vec::from_slice(alloc, &system.literals)?,
-    })
-}
-
 /// Returns the place of the gate of each variable, or `NONE`.
 fn gates_of(alloc: Global, system: &CircuitPart, variables: usize) -> Result<Vec<u32>, AllocError> {
     let mut gates = vec![in alloc; NONE; variables]?;
@@ -70,13 +65,15 @@ impl CircuitMachine {
     /// Makes a machine that has only the state in which all latches are 0.
     pub fn new(
         alloc: Global,
-        system: &CircuitPart,
+        cone: SystemCone,
         signals: Signals,
     ) -> Result<CircuitMachine, AllocError> {
-        let gates = gates_of(alloc, system, signals.variables())?;
+        let gates = gates_of(alloc, &cone.part, signals.variables())?;
         let mut machine = CircuitMachine {
             alloc,
-            system: copied(alloc, system)?,
+            system: cone.part,
+            places: cone.places,
+            latches: cone.latches,
             signals,
             gates,
             wanted: Vec::new(alloc),

@@ -2,6 +2,7 @@
 
 use crate::bits::LetterCube;
 use crate::budget::{Limits, SearchResult};
+use crate::cone::{cone_of, variables};
 use crate::machine::CircuitMachine;
 use crate::numbers::{NONE, NodeSpan, count, item, put};
 use crate::rails::Rail;
@@ -28,9 +29,14 @@ impl StatePiece {
     };
 }
 
-/// The states of a circuit that were reached so far, and the pieces of those that were asked for. They serve for any number of formulas.
+/// A circuit: the part of it on which some propositions depend, the states of that part that were reached so far, and the pieces of those
+/// that were asked for.
 #[derive(Drop)]
 pub struct CircuitPieces {
+    pub(crate) system: CircuitPart,
+    pub(crate) inputs: Vec<u32>,
+    /// One more than the system's greatest variable.
+    pub(crate) variables: usize,
     pub(crate) machine: CircuitMachine,
     pieces: Vec<StatePiece>,
     /// The pieces of each state, if they are known.
@@ -65,6 +71,31 @@ fn join(row: &[u32], inputs: u32, cube: LetterCube, found: &mut Answered) -> Sea
     join(on, last, cube.and(LetterCube::of(last, true)), found)
 }
 
+/// Returns the same system once more.
+fn copied(alloc: Global, system: &CircuitPart) -> Result<CircuitPart, AllocError> {
+    Ok(CircuitPart {
+        gates: Vec::from_slice(alloc, &system.gates)?,
+        latches: Vec::from_slice(alloc, &system.latches)?,
+        literals: Vec::from_slice(alloc, &system.literals)?,
+    })
+}
+
+/// Makes a machine of the part of a system on which these propositions depend.
+fn machine_of(
+    alloc: Global,
+    system: &CircuitPart,
+    inputs: &[u32],
+    propositions: &[u32],
+) -> Result<CircuitMachine, AllocError> {
+    let mut spoken = Vec::with_capacity(alloc, propositions.len())?;
+    for proposition in propositions {
+        spoken.push(item(&system.literals, *proposition, 0))?;
+    }
+    let cone = cone_of(alloc, system, &spoken)?;
+    let signals = Signals::new(alloc, &cone.part, inputs, &spoken)?;
+    CircuitMachine::new(alloc, cone, signals)
+}
+
 impl CircuitPieces {
     /// Begins with the state in which all latches are 0. Formulas may speak of these propositions alone. The gates of the system must
     /// come in order, each after those that it uses.
@@ -74,21 +105,33 @@ impl CircuitPieces {
         inputs: &[u32],
         propositions: &[u32],
     ) -> Result<CircuitPieces, AllocError> {
-        let mut spoken = Vec::with_capacity(alloc, propositions.len())?;
-        for proposition in propositions {
-            spoken.push(item(&system.literals, *proposition, 0))?;
-        }
-        let signals = Signals::new(alloc, system, inputs, &spoken)?;
-        let variables = signals.variables();
         Ok(CircuitPieces {
-            machine: CircuitMachine::new(alloc, system, signals)?,
+            system: copied(alloc, system)?,
+            inputs: Vec::from_slice(alloc, inputs)?,
+            variables: variables(system, inputs),
+            machine: machine_of(alloc, system, inputs, propositions)?,
             pieces: Vec::new(alloc),
             spans: Vec::new(alloc),
             cubes: Vec::new(alloc),
             numbers: Vec::new(alloc),
-            words: vec![in alloc; 0; variables]?,
-            rails: vec![in alloc; Rail::FALSE; variables]?,
+            words: Vec::new(alloc),
+            rails: Vec::new(alloc),
         })
+    }
+
+    /// Begins anew, with the part of the circuit on which these propositions depend.
+    pub(crate) fn begin(&mut self, propositions: &[u32]) -> Result<(), AllocError> {
+        let alloc = self.machine.alloc;
+        self.machine = machine_of(alloc, &self.system, &self.inputs, propositions)?;
+        let variables = self.machine.signals.variables();
+        self.pieces.clear();
+        self.spans.clear();
+        self.cubes.clear();
+        self.numbers.clear();
+        self.words.clear();
+        self.words.resize(variables, 0)?;
+        self.rails.clear();
+        self.rails.resize(variables, Rail::FALSE)
     }
 
     pub(crate) fn alloc(&self) -> Global {
@@ -107,6 +150,7 @@ impl CircuitPieces {
         let mut cube = Vec::with_capacity(alloc, latches)?;
         for latch in 0..latches {
             let value = lanes::has_bit(state, count(latch));
+            let latch = item(&self.machine.places, count(latch), NONE) as usize;
             cube.push(Bit { latch, value })?;
         }
         Ok(cube)

@@ -1,6 +1,6 @@
 //! The part of the product of a circuit and a tableau that is reached from the start.
 
-use crate::bits::Bits;
+use crate::bits::{Bits, LetterCube};
 use crate::budget::{Limits, SearchLimit, SearchResult, SearchStop};
 use crate::numbers::{NodeSpan, count, item};
 use crate::pieces::CircuitPieces;
@@ -49,22 +49,23 @@ impl CircuitProduct {
         })
     }
 
-    /// Adds all that is reached from the start.
+    /// Goes on from the nodes up to the one with the number `end`. Returns whether all that is reached from the start was added.
     pub fn explore(
         &mut self,
         circuit: &mut CircuitPieces,
+        end: u32,
         limits: &mut Limits,
-    ) -> SearchResult<()> {
-        for v in 0..u32::MAX {
+    ) -> SearchResult<bool> {
+        for v in self.len()..end {
             let Some(node) = self.nodes.get_index(v as usize).copied() else {
-                break;
+                return Ok(true);
             };
             self.expand(circuit, node, limits)?;
             if count(self.nodes.len()) > limits.nodes {
                 return Err(SearchStop::GivenUp(SearchLimit::Nodes));
             }
         }
-        Ok(())
+        Ok(self.nodes.len() <= end as usize)
     }
 
     /// Appends the arcs of a node. Nodes must be expanded in order.
@@ -111,7 +112,7 @@ impl CircuitProduct {
         Ok(())
     }
 
-    /// Returns the number of nodes.
+    /// Returns the number of nodes from which the product goes on.
     pub fn len(&self) -> u32 {
         count(self.spans.len())
     }
@@ -139,9 +140,9 @@ impl CircuitProduct {
         self.tableau.put_off(arc.puts)
     }
 
-    /// Returns signals that are true in a letter by which an arc goes; the others may be false.
-    pub fn letter(&self, circuit: &CircuitPieces, arc: &ProductArc) -> Bits {
+    /// Returns what signals have to be in a letter by which an arc goes.
+    pub fn letter(&self, circuit: &CircuitPieces, arc: &ProductArc) -> LetterCube {
         let piece = circuit.piece(arc.piece);
-        piece.cube.on.or(self.tableau.step(arc.step).sample.on)
+        piece.cube.and(self.tableau.step(arc.step).sample)
     }
 }

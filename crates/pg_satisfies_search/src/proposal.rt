@@ -1,17 +1,21 @@
 //! What is proposed: a certificate or a lasso.
 
 use crate::budget::{Limits, SearchLimit, SearchResult, SearchStop};
-use crate::formulas::Formulas;
+use crate::formulas::{Formulas, propositions_of};
 use crate::guide::EmptyProduct;
-use crate::lasso::{InputLasso, lasso_of};
+use crate::lasso::{InputLasso, OpenLasso, lasso_of};
 use crate::numbers::count;
 use crate::pieces::CircuitPieces;
 use crate::product::CircuitProduct;
 use crate::ranks::{ProductRanks, ranks_of};
+use crate::selection::ConjunctSelection;
 use crate::tableau::CubeTableau;
 use pg_ltl::NormalNode;
 use pg_satisfies_check::EmptinessCertificate;
 use std::alloc::AllocError;
+
+/// A product is first looked at when it has so many nodes.
+const FIRST_NODES: u32 = 256;
 
 /// What is proposed.
 #[derive(Drop)]
@@ -25,47 +29,81 @@ pub enum SatisfactionProposal {
 }
 
 /// Proposes evidence that no run of a circuit satisfies the formula at the place `root`, which is the negation of what the circuit should
-/// satisfy; or proposes inputs, with a value for each of `inputs`, on which its run does. Fails only if an allocation fails.
+/// satisfy; or proposes inputs, with a value for each of the circuit's, on which its run does. Fails only if an allocation fails.
 pub fn propose(
     circuit: &mut CircuitPieces,
-    inputs: &[u32],
     nodes: &[NormalNode],
     root: usize,
     limits: Limits,
 ) -> Result<SatisfactionProposal, AllocError> {
-    match search(circuit, inputs, nodes, root, limits) {
+    match search(circuit, nodes, root, limits) {
         Ok(proposal) => Ok(proposal),
         Err(SearchStop::GivenUp(limit)) => Ok(SatisfactionProposal::GivenUp(limit)),
         Err(SearchStop::OutOfMemory) => Err(AllocError),
     }
 }
 
-/// Proposes, or says why nothing is proposed.
+/// A product without a run that satisfies the formula, and its ranks; or inputs on which the circuit's run does.
+#[derive(Drop)]
+enum SearchOutcome {
+    Empty(CircuitProduct, ProductRanks),
+    Run(OpenLasso),
+}
+
+/// Proposes, or says why nothing is proposed. Begins with few conjuncts of the formula, and adds more as long as there is a run on which the
+/// others hold.
 fn search(
     circuit: &mut CircuitPieces,
-    inputs: &[u32],
     nodes: &[NormalNode],
     root: usize,
     limits: Limits,
 ) -> SearchResult<SatisfactionProposal> {
-    let product = explored(circuit, nodes, root, limits)?;
-    Ok(decided(circuit, inputs, product)?)
+    let mut selection = ConjunctSelection::new(circuit.alloc(), nodes, root)?;
+    for _ in 0..selection.len().saturating_add(2) {
+        match tried(circuit, nodes, root, &selection, limits) {
+            Ok(SearchOutcome::Empty(product, ranks)) => {
+                return Ok(satisfied(circuit, product, ranks)?);
+            }
+            Ok(SearchOutcome::Run(lasso)) => {
+                if let Some(lasso) = selection.learn(circuit, nodes, root, &lasso)? {
+                    return Ok(SatisfactionProposal::Violated(lasso));
+                }
+            }
+            Err(SearchStop::GivenUp(_)) if !selection.is_whole() => selection.keep_all(),
+            Err(stop) => return Err(stop),
+        }
+    }
+    Err(SearchStop::GivenUp(SearchLimit::CubeSteps))
 }
 
-/// Returns what a whole product shows.
-fn decided(
+/// Looks for a run on which the selected conjuncts hold. Spends only a part of what it may on a few of them.
+fn tried(
     circuit: &mut CircuitPieces,
-    inputs: &[u32],
-    product: CircuitProduct,
-) -> Result<SatisfactionProposal, AllocError> {
-    let ranks = ranks_of(&product)?;
-    match ranks.fulfilling() {
-        Some(component) => {
-            let lasso = lasso_of(circuit, &product, &ranks, component, inputs)?;
-            Ok(SatisfactionProposal::Violated(lasso))
-        }
-        None => satisfied(circuit, product, ranks),
+    nodes: &[NormalNode],
+    root: usize,
+    selection: &ConjunctSelection,
+    limits: Limits,
+) -> SearchResult<SearchOutcome> {
+    let mut limits = limits;
+    if !selection.is_whole() {
+        limits.nodes /= 8;
+        limits.steps /= 8;
     }
+    let mut product = begun(circuit, nodes, root, selection)?;
+    let mut end = FIRST_NODES;
+    for _ in 0..32 {
+        let is_whole = product.explore(circuit, end, &mut limits)?;
+        let ranks = ranks_of(&product)?;
+        if let Some(component) = ranks.fulfilling() {
+            let lasso = lasso_of(circuit, &product, &ranks, component, &circuit.inputs)?;
+            return Ok(SearchOutcome::Run(lasso));
+        }
+        if is_whole {
+            return Ok(SearchOutcome::Empty(product, ranks));
+        }
+        end = end.saturating_mul(2);
+    }
+    Err(SearchStop::GivenUp(SearchLimit::Nodes))
 }
 
 /// Returns what a product without a run shows.
@@ -112,19 +150,18 @@ fn certificate_of(
     Ok(certificate)
 }
 
-/// Returns the product of a circuit and the tableau of the formula at the place `root`.
-fn explored(
+/// Returns the product of a circuit and the tableau of the selected conjuncts, which has only the start so far.
+fn begun(
     circuit: &mut CircuitPieces,
     nodes: &[NormalNode],
     root: usize,
-    limits: Limits,
+    selection: &ConjunctSelection,
 ) -> SearchResult<CircuitProduct> {
     let alloc = circuit.alloc();
+    let left_out = selection.left_out(alloc)?;
+    circuit.begin(&propositions_of(alloc, nodes, root, &left_out)?)?;
     circuit.machine.check()?;
-    let formulas = Formulas::new(alloc, &circuit.machine, nodes, root)?;
+    let formulas = Formulas::new(alloc, &circuit.machine, nodes, root, &left_out)?;
     let tableau = CubeTableau::new(alloc, formulas)?;
-    let mut product = CircuitProduct::new(alloc, tableau)?;
-    let mut limits = limits;
-    product.explore(circuit, &mut limits)?;
-    Ok(product)
+    CircuitProduct::new(alloc, tableau)
 }

@@ -21,7 +21,9 @@ pub fn ranks_of(product: &CircuitProduct) -> Result<ProductRanks, AllocError> {
     let mut all = Vec::with_capacity(alloc, product.len() as usize)?;
     for v in 0..product.len() {
         for arc in product.arcs(v) {
-            rows.push(arc.to)?;
+            if arc.to < product.len() {
+                rows.push(arc.to)?;
+            }
         }
         rows.end()?;
         all.push(v)?;

@@ -1,6 +1,6 @@
 //! The tableau of a formula: sets of formulas that are asked for, and the choices that lead from one set to another.
 
-use crate::bits::{Bits, LetterCube, ROOM};
+use crate::bits::{Bits, LetterCube};
 use crate::budget::{Limits, SearchResult};
 use crate::choices::{Choices, CubeChoice, both, either, over, pruned, signals_of};
 use crate::formulas::Formulas;
@@ -9,7 +9,7 @@ use indexmap::IndexSet;
 use pg_ltl::NormalNode;
 use std::alloc::Global;
 
-/// The number of a formula or a set, and what is known of the signals on which its choices depend.
+/// The position of a formula or the number of a set, and what is known of the signals on which its choices depend.
 #[derive(Clone, Copy, PartialEq, Eq, Hash)]
 struct AskedFormulas {
     number: u32,
@@ -138,16 +138,18 @@ impl CubeTableau {
         Ok(NodeSpan { from, to })
     }
 
-    /// Returns the choices of a set, from those of its formulas. A signal doesn't matter any more after the last formula that depends on it.
+    /// Returns the choices of a set, from those of its formulas' conjuncts. A signal doesn't matter any more after the last formula that depends on it.
     fn choices_of_set(
         &mut self,
         asks: Bits,
         known: LetterCube,
         limits: &mut Limits,
     ) -> SearchResult<Choices> {
-        let mut parts = self.parts(asks, known, limits)?;
-        let mut all = vec![in self.alloc; CubeChoice::FREE; 1]?;
-        for _ in 0..ROOM {
+        let (always, positions) = self.formulas.taken_apart(self.alloc, asks)?;
+        let mut parts = self.parts(&positions, known, limits)?;
+        let start = CubeChoice::asking(always, Bits::EMPTY);
+        let mut all = vec![in self.alloc; start; 1]?;
+        for _ in 0..positions.len() {
             let Some((_, number)) = parts.pop() else {
                 break;
             };
@@ -160,20 +162,16 @@ impl CubeTableau {
         Ok(all)
     }
 
-    /// Returns for each formula of a set how many choices it has, and their number. Those with the fewest come last.
+    /// Returns for each formula how many choices it has, and their number. Those with the fewest come last.
     fn parts(
         &mut self,
-        asks: Bits,
+        positions: &[usize],
         known: LetterCube,
         limits: &mut Limits,
     ) -> SearchResult<Vec<(usize, u32)>> {
-        let mut parts = Vec::new(self.alloc);
-        let mut rest = asks;
-        for _ in 0..ROOM {
-            let Some(formula) = rest.take() else {
-                break;
-            };
-            let number = self.choices_of(formula, known, limits)?;
+        let mut parts = Vec::with_capacity(self.alloc, positions.len())?;
+        for position in positions {
+            let number = self.choices_of(*position, known, limits)?;
             let many = self.known_choices(number).len();
             parts.push((many, number))?;
             if many == 0 {
@@ -202,15 +200,15 @@ impl CubeTableau {
         }
     }
 
-    /// Returns the number of the choices of a formula that is asked for.
+    /// Returns the number of the choices of the formula at a position.
     fn choices_of(
         &mut self,
-        number: u32,
+        position: usize,
         known: LetterCube,
         limits: &mut Limits,
     ) -> SearchResult<u32> {
-        let position = self.formulas.asked(number);
         let known = known.over(self.formulas.now(position));
+        let number = count(position);
         let (found, is_new) = self
             .formulas_known
             .insert_full(AskedFormulas { number, known })?;
@@ -269,14 +267,19 @@ impl CubeTableau {
     fn literal(&self, says: LetterCube, known: LetterCube) -> SearchResult<Choices> {
         let mut choices = Vec::new(self.alloc);
         if says.agrees(known) {
-            let cube = if says.is_within(known) {
+            let sample = if says.is_within(known) {
                 LetterCube::FREE
             } else {
                 says
             };
+            let cube = if self.formulas.is_pure(says) {
+                LetterCube::FREE
+            } else {
+                sample
+            };
             choices.push(CubeChoice {
                 cube,
-                sample: cube,
+                sample,
                 ..CubeChoice::FREE
             })?;
         }
