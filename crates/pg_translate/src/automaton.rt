@@ -36,6 +36,28 @@ impl Classes {
         })
     }
 
+    /// Returns the classes of letters that have the same edge from each state. The edges are given letter by letter.
+    fn of_rows(alloc: Global, propositions: u32, edges: &[MarkedEdge]) -> Attempt<Classes> {
+        let mut classes = Classes::new(alloc, propositions)?;
+        let letters = classes.letters();
+        for row in edges.chunks(letters.max(1) as usize) {
+            classes.refine(alloc, row, letters.wrapping_sub(1))?;
+        }
+        Ok(classes)
+    }
+
+    /// Of edges that are given letter by letter, returns one of each class.
+    fn one_of_each(&self, alloc: Global, edges: &[MarkedEdge]) -> Attempt<Vec<MarkedEdge>> {
+        let examples = self.examples(alloc)?;
+        let mut by_class = Vec::new(alloc);
+        for row in edges.chunks(self.letters().max(1) as usize) {
+            for letter in &examples {
+                by_class.push(item(row, *letter, MarkedEdge::NONE))?;
+            }
+        }
+        Ok(by_class)
+    }
+
     pub fn of(&self, letter: u32) -> u32 {
         at(&self.of, letter)
     }
@@ -97,34 +119,45 @@ pub struct MarkedAutomaton {
     pub keys: Vec<u32>,
 }
 
-impl MarkedAutomaton {
-    /// Returns the automaton whose edges are given state by state and letter by letter.
-    pub fn of_letters(
-        alloc: Global,
-        propositions: u32,
-        edges: &[MarkedEdge],
-        keys: Vec<u32>,
-    ) -> Attempt<MarkedAutomaton> {
-        let mut classes = Classes::new(alloc, propositions)?;
-        let letters = classes.letters();
-        for row in edges.chunks(letters.max(1) as usize) {
-            classes.refine(alloc, row, letters.wrapping_sub(1))?;
+/// The edges of states, state by state, and the key of each state.
+#[derive(Drop)]
+pub struct KeyedEdges {
+    pub edges: Vec<MarkedEdge>,
+    pub keys: Vec<u32>,
+}
+
+impl KeyedEdges {
+    pub fn new(alloc: Global) -> KeyedEdges {
+        KeyedEdges {
+            edges: Vec::new(alloc),
+            keys: Vec::new(alloc),
         }
-        let examples = classes.examples(alloc)?;
-        let mut by_class = Vec::new(alloc);
-        for row in edges.chunks(letters.max(1) as usize) {
-            for letter in &examples {
-                by_class.push(item(row, *letter, MarkedEdge::NONE))?;
-            }
+    }
+
+    /// Returns the automaton of edges that are given by class.
+    pub fn with_classes(self, alloc: Global, classes: Classes) -> MarkedAutomaton {
+        MarkedAutomaton {
+            alloc,
+            classes,
+            edges: self.edges,
+            keys: self.keys,
         }
+    }
+
+    /// Returns the automaton of edges that are given letter by letter.
+    pub fn with_letters(self, alloc: Global, propositions: u32) -> Attempt<MarkedAutomaton> {
+        let classes = Classes::of_rows(alloc, propositions, &self.edges)?;
+        let edges = classes.one_of_each(alloc, &self.edges)?;
         Ok(MarkedAutomaton {
             alloc,
             classes,
-            edges: by_class,
-            keys,
+            edges,
+            keys: self.keys,
         })
     }
+}
 
+impl MarkedAutomaton {
     /// How many states there are.
     pub fn len(&self) -> u32 {
         count(self.edges.len()) / self.classes.many.max(1)
@@ -164,33 +197,55 @@ impl MarkedAutomaton {
 
     /// Returns the automaton of the states that are reached when `by` replaces each state, numbered in the order in which they are met.
     pub fn replaced(&self, by: &[u32]) -> Attempt<MarkedAutomaton> {
-        let mut numbers = vec![in self.alloc; NONE; self.len() as usize]?;
-        let mut order = vec![in self.alloc; at(by, 0); 1]?;
-        put(&mut numbers, at(by, 0), 0);
-        let mut edges = Vec::new(self.alloc);
-        let mut keys = Vec::new(self.alloc);
+        let mut met = MetStates {
+            numbers: vec![in self.alloc; NONE; self.len() as usize]?,
+            order: Vec::new(self.alloc),
+        };
+        met.number(at(by, 0))?;
+        let mut found = KeyedEdges::new(self.alloc);
         for place in 0..self.len() {
-            let Some(state) = order.get(place as usize).copied() else {
+            let Some(state) = met.order.get(place as usize).copied() else {
                 break;
             };
-            keys.push(at(&self.keys, state))?;
-            for edge in self.row(state) {
-                let target = at(by, edge.target);
-                if at(&numbers, target) == NONE {
-                    put(&mut numbers, target, count(order.len()));
-                    order.push(target)?;
-                }
-                edges.push(MarkedEdge {
-                    target: at(&numbers, target),
-                    mark: edge.mark,
-                })?;
-            }
+            found.keys.push(at(&self.keys, state))?;
+            self.redirect(state, by, &mut met, &mut found.edges)?;
         }
-        Ok(MarkedAutomaton {
-            alloc: self.alloc,
-            classes: self.classes.clone()?,
-            edges,
-            keys,
-        })
+        let classes = self.classes.clone()?;
+        Ok(found.with_classes(self.alloc, classes))
+    }
+
+    /// Appends the edges of a state, when `by` replaces each state and the states that were met have numbers.
+    fn redirect(
+        &self,
+        state: u32,
+        by: &[u32],
+        met: &mut MetStates,
+        edges: &mut Vec<MarkedEdge>,
+    ) -> Attempt<()> {
+        for edge in self.row(state) {
+            edges.push(MarkedEdge {
+                target: met.number(at(by, edge.target))?,
+                mark: edge.mark,
+            })?;
+        }
+        Ok(())
+    }
+}
+
+/// States that were met, in the order in which they were, and the number of each state in this order, or `NONE`.
+#[derive(Drop)]
+struct MetStates {
+    numbers: Vec<u32>,
+    order: Vec<u32>,
+}
+
+impl MetStates {
+    /// Returns the number of a state, which is the next one if the state is new.
+    fn number(&mut self, state: u32) -> Attempt<u32> {
+        if at(&self.numbers, state) == NONE {
+            put(&mut self.numbers, state, count(self.order.len()));
+            self.order.push(state)?;
+        }
+        Ok(at(&self.numbers, state))
     }
 }

@@ -130,22 +130,39 @@ impl Bdd {
             let Some(task) = tasks.pop() else {
                 break;
             };
-            match task {
-                DiagramTask::Look(choice) => match self.known(choice) {
-                    Some(known) => done.push(known)?,
-                    None => self.part(choice, &mut tasks)?,
-                },
-                DiagramTask::Join(variable, choice) => {
-                    let high = done.pop().unwrap_or(NEVER);
-                    let low = done.pop().unwrap_or(NEVER);
-                    let joined = self.join(variable, low, high)?;
-                    let _ = self.choices.insert_full(choice)?;
-                    self.made.push(joined)?;
-                    done.push(joined)?;
-                }
-            }
+            self.carry_out(task, &mut tasks, &mut done)?;
         }
         Ok(done.pop().unwrap_or(NEVER))
+    }
+
+    /// Carries out a task: appends its diagram to those that are done, or its parts to the tasks.
+    fn carry_out(
+        &mut self,
+        task: DiagramTask,
+        tasks: &mut Vec<DiagramTask>,
+        done: &mut Vec<u32>,
+    ) -> Attempt<()> {
+        match task {
+            DiagramTask::Look(choice) => match self.known(choice) {
+                Some(known) => done.push(known)?,
+                None => self.part(choice, tasks)?,
+            },
+            DiagramTask::Join(variable, choice) => {
+                let high = done.pop().unwrap_or(NEVER);
+                let low = done.pop().unwrap_or(NEVER);
+                let joined = self.join(variable, low, high)?;
+                self.note(choice, joined)?;
+                done.push(joined)?;
+            }
+        }
+        Ok(())
+    }
+
+    /// Notes the diagram of a choice.
+    fn note(&mut self, choice: IfThenElse, made: u32) -> Attempt<()> {
+        let _ = self.choices.insert_full(choice)?;
+        self.made.push(made)?;
+        Ok(())
     }
 }
 

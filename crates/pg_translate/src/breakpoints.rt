@@ -1,6 +1,6 @@
 //! Breakpoints (Miyano and Hayashi, Theoretical Computer Science 32, 1984): a state is what is asked, and what of that is waited for.
 
-use crate::automaton::{MarkedAutomaton, MarkedEdge};
+use crate::automaton::{KeyedEdges, MarkedEdge};
 use crate::bdd::{ALWAYS, NEVER};
 use crate::fault::{Attempt, TranslateFault};
 use crate::leaf::Leaf;
@@ -31,6 +31,28 @@ fn recurring(pool: &FormulaPool, f: u32) -> Option<u32> {
 }
 
 impl Breakpoints {
+    /// Returns the first state of a formula.
+    fn new(pool: &mut FormulaPool, f: u32, propositions: u32) -> Attempt<Breakpoints> {
+        let mut points = Breakpoints {
+            progress: Progress::new(pool.alloc, propositions, false)?,
+            again: NONE,
+            states: NumberedLists::new(pool.alloc),
+        };
+        points.begin(pool, f)?;
+        Ok(points)
+    }
+
+    /// Adds the first state.
+    fn begin(&mut self, pool: &mut FormulaPool, f: u32) -> Attempt<()> {
+        let start = self.progress.ask(pool, f)?;
+        if let Some(g) = recurring(pool, f) {
+            self.again = self.progress.ask(pool, g)?;
+        }
+        let waited = self.waits(pool, start)?;
+        self.states.number(&[start, waited])?;
+        Ok(())
+    }
+
     /// Returns what is waited for next, once nothing is left to wait for.
     fn waits(&mut self, pool: &mut FormulaPool, asked: u32) -> Attempt<u32> {
         if self.again != NONE {
@@ -50,49 +72,65 @@ impl Breakpoints {
         let target = self.states.number(&state)?;
         Ok(MarkedEdge { target, mark })
     }
+
+    /// Appends the edges of a state over the propositions of a mask, letter by letter.
+    fn expand(
+        &mut self,
+        pool: &mut FormulaPool,
+        state: [u32; 2],
+        mask: u32,
+        edges: &mut Vec<MarkedEdge>,
+    ) -> Attempt<()> {
+        let [asked, waited] = state;
+        let next_asked = self.progress.step(pool, asked)?;
+        let next_waited = self.progress.step(pool, waited)?;
+        for local in 0..power(mask.count_ones()) {
+            let letter = spread(local, mask);
+            let left = if self.again == NONE {
+                self.progress.left(next_asked, letter)
+            } else {
+                asked
+            };
+            let waited = self.progress.left(next_waited, letter);
+            let edge = self.edge(pool, left, waited)?;
+            edges.push(edge)?;
+        }
+        Ok(())
+    }
+
+    /// Finds the edges of each state over the propositions of a mask.
+    fn explore(
+        &mut self,
+        pool: &mut FormulaPool,
+        mask: u32,
+        found: &mut KeyedEdges,
+    ) -> Attempt<()> {
+        for number in 0..u32::MAX {
+            let [asked, waited] = *self.states.list(number) else {
+                break;
+            };
+            found.keys.push(asked)?;
+            self.expand(pool, [asked, waited], mask, &mut found.edges)?;
+            if found.edges.len() > MOST_EDGES {
+                return Err(TranslateFault::TooManyStates);
+            }
+        }
+        Ok(())
+    }
+}
+
+/// Returns the edges of a formula in Pi 2 over the propositions of a mask; `propositions` is the number of all propositions.
+fn edges_of(pool: &mut FormulaPool, f: u32, propositions: u32, mask: u32) -> Attempt<KeyedEdges> {
+    let mut points = Breakpoints::new(pool, f, propositions)?;
+    let mut found = KeyedEdges::new(pool.alloc);
+    points.explore(pool, mask, &mut found)?;
+    Ok(found)
 }
 
 /// Returns the automaton of a formula in Pi 2; `propositions` is the number of all propositions.
 pub fn by_breakpoints(pool: &mut FormulaPool, f: u32, propositions: u32) -> Attempt<Leaf> {
     let mask = pool.facts(f).propositions;
-    let mut progress = Progress::new(pool.alloc, propositions, false)?;
-    let start = progress.ask(pool, f)?;
-    let again = match recurring(pool, f) {
-        Some(g) => progress.ask(pool, g)?,
-        None => NONE,
-    };
-    let mut points = Breakpoints {
-        progress,
-        again,
-        states: NumberedLists::new(pool.alloc),
-    };
-    let waited = points.waits(pool, start)?;
-    points.states.number(&[start, waited])?;
-    let mut edges = Vec::new(pool.alloc);
-    let mut keys = Vec::new(pool.alloc);
-    for number in 0..u32::MAX {
-        let [asked, waited] = *points.states.list(number) else {
-            break;
-        };
-        keys.push(asked)?;
-        let next_asked = points.progress.step(pool, asked)?;
-        let next_waited = points.progress.step(pool, waited)?;
-        for local in 0..power(mask.count_ones()) {
-            let letter = spread(local, mask);
-            let bdd = &points.progress.bdd;
-            let asked = if again == NONE {
-                bdd.walk(next_asked, propositions, letter)
-            } else {
-                asked
-            };
-            let waited = bdd.walk(next_waited, propositions, letter);
-            let edge = points.edge(pool, asked, waited)?;
-            edges.push(edge)?;
-        }
-        if edges.len() > MOST_EDGES {
-            return Err(TranslateFault::TooManyStates);
-        }
-    }
-    let automaton = MarkedAutomaton::of_letters(pool.alloc, mask.count_ones(), &edges, keys)?;
+    let found = edges_of(pool, f, propositions, mask)?;
+    let automaton = found.with_letters(pool.alloc, mask.count_ones())?;
     Leaf::new(&automaton, mask)
 }

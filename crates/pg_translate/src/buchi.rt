@@ -85,32 +85,48 @@ struct Sets {
 /// Returns the sets that are reached in the tableau of a formula over the propositions of a mask, and their choices.
 fn sets_of(pool: &FormulaPool, f: u32, mask: u32) -> Attempt<Sets> {
     let mut tableau = Tableau::new(pool);
-    let mut sets = IndexSet::new(pool.alloc);
-    let _ = sets.insert_full(tableau.asked(f)?.unwrap_or(0))?;
+    let first = tableau.asked(f)?.unwrap_or(0);
     let mut found = Sets {
         letters: power(mask.count_ones()),
         choices: Vec::new(pool.alloc),
         ends: Vec::new(pool.alloc),
     };
-    for place in 0..u32::MAX {
-        let Some(set) = sets.get_index(place as usize).copied() else {
-            break;
-        };
-        for local in 0..found.letters {
-            for choice in &tableau.choices(set, spread(local, mask))? {
-                let (number, _) = sets.insert_full(choice.asks)?;
-                found.choices.push(ChoiceBits {
-                    asks: number as u64,
-                    puts: choice.puts,
-                })?;
-            }
-            found.ends.push(count(found.choices.len()))?;
-        }
-        if found.choices.len().max(found.ends.len()) > MOST_EDGES {
-            return Err(TranslateFault::TooManyStates);
-        }
-    }
+    found.explore(&mut tableau, first, mask)?;
     Ok(found)
+}
+
+impl Sets {
+    /// Finds the choices of a set and of each set that they lead to.
+    fn explore(&mut self, tableau: &mut Tableau, first: u64, mask: u32) -> Attempt<()> {
+        let mut sets = IndexSet::new(tableau.alloc());
+        let _ = sets.insert_full(first)?;
+        for place in 0..u32::MAX {
+            let Some(set) = sets.get_index(place as usize).copied() else {
+                break;
+            };
+            for local in 0..self.letters {
+                let choices = tableau.choices(set, spread(local, mask))?;
+                self.add(&choices, &mut sets)?;
+            }
+            if self.choices.len().max(self.ends.len()) > MOST_EDGES {
+                return Err(TranslateFault::TooManyStates);
+            }
+        }
+        Ok(())
+    }
+
+    /// Appends the choices of a set at a letter.
+    fn add(&mut self, choices: &[ChoiceBits], sets: &mut IndexSet<u64>) -> Attempt<()> {
+        for choice in choices {
+            let (number, _) = sets.insert_full(choice.asks)?;
+            self.choices.push(ChoiceBits {
+                asks: number as u64,
+                puts: choice.puts,
+            })?;
+        }
+        self.ends.push(count(self.choices.len()))?;
+        Ok(())
+    }
 }
 
 impl Sets {
@@ -147,7 +163,31 @@ fn next_level(level: u32, all: u64, puts: u64) -> u32 {
     next
 }
 
-/// Returns the edges of states that are sets with a level of the counter. An edge accepts if the counter comes to its end on it.
+impl Arcs {
+    /// Appends the edges of a set with a level of the counter. An edge accepts if the counter comes to its end on it.
+    fn add(
+        &mut self,
+        sets: &Sets,
+        state: [u32; 2],
+        all: u64,
+        states: &mut NumberedLists<u32>,
+    ) -> Attempt<()> {
+        let [set, level] = state;
+        for letter in 0..sets.letters {
+            for choice in sets.of(set, letter) {
+                let next = next_level(level, all, choice.puts);
+                let accepts = next >= 64;
+                let next = if accepts { 0 } else { next };
+                let target = states.number(&[count(choice.asks as usize), next])?;
+                self.arcs.push(BuchiEdge { target, accepts })?;
+            }
+            self.ends.push(count(self.arcs.len()))?;
+        }
+        Ok(())
+    }
+}
+
+/// Returns the edges of states that are sets with a level of the counter.
 fn counted(alloc: Global, sets: &Sets) -> Attempt<Arcs> {
     let all = sets.puts();
     let mut states = NumberedLists::new(alloc);
@@ -161,16 +201,7 @@ fn counted(alloc: Global, sets: &Sets) -> Attempt<Arcs> {
         let [set, level] = *states.list(number) else {
             break;
         };
-        for letter in 0..sets.letters {
-            for choice in sets.of(set, letter) {
-                let next = next_level(level, all, choice.puts);
-                let accepts = next >= 64;
-                let next = if accepts { 0 } else { next };
-                let target = states.number(&[count(choice.asks as usize), next])?;
-                found.arcs.push(BuchiEdge { target, accepts })?;
-            }
-            found.ends.push(count(found.arcs.len()))?;
-        }
+        found.add(sets, [set, level], all, &mut states)?;
         if found.arcs.len().max(found.ends.len()) > MOST_EDGES {
             return Err(TranslateFault::TooManyStates);
         }
@@ -178,8 +209,8 @@ fn counted(alloc: Global, sets: &Sets) -> Attempt<Arcs> {
     Ok(found)
 }
 
-/// Returns for each state whether a word is accepted from it.
-fn live(alloc: Global, arcs: &Arcs) -> Attempt<Vec<bool>> {
+/// Finds the components of the edges.
+fn ranks_of(alloc: Global, arcs: &Arcs) -> Attempt<ComponentRanks> {
     let mut rows = TargetRows::with_capacity(alloc, arcs.states() as usize)?;
     for state in 0..arcs.states() {
         for arc in arcs.of_state(state) {
@@ -187,7 +218,11 @@ fn live(alloc: Global, arcs: &Arcs) -> Attempt<Vec<bool>> {
         }
         rows.end()?;
     }
-    let ranks = ComponentRanks::new(alloc, &rows, arcs.states())?;
+    ComponentRanks::new(alloc, &rows, arcs.states())
+}
+
+/// Returns for each component whether a word is accepted from it.
+fn live_components(alloc: Global, arcs: &Arcs, ranks: &ComponentRanks) -> Attempt<Vec<bool>> {
     let mut is_live = vec![in alloc; false; ranks.many as usize]?;
     for state in &ranks.order(alloc)? {
         let rank = ranks.of(*state);
@@ -198,6 +233,13 @@ fn live(alloc: Global, arcs: &Arcs) -> Attempt<Vec<bool>> {
             }
         }
     }
+    Ok(is_live)
+}
+
+/// Returns for each state whether a word is accepted from it.
+fn live(alloc: Global, arcs: &Arcs) -> Attempt<Vec<bool>> {
+    let ranks = ranks_of(alloc, arcs)?;
+    let is_live = live_components(alloc, arcs, &ranks)?;
     let mut live = Vec::new(alloc);
     for state in 0..arcs.states() {
         live.push(is_marked(&is_live, ranks.of(state)))?;
@@ -207,8 +249,21 @@ fn live(alloc: Global, arcs: &Arcs) -> Attempt<Vec<bool>> {
 
 /// Returns the automaton of a formula over the propositions of a mask. Edges to states from which nothing is accepted are left out.
 pub fn buchi_of(pool: &FormulaPool, f: u32, mask: u32) -> Attempt<Buchi> {
-    let arcs = counted(pool.alloc, &sets_of(pool, f, mask)?)?;
+    let sets = sets_of(pool, f, mask)?;
+    let arcs = counted(pool.alloc, &sets)?;
     let live = live(pool.alloc, &arcs)?;
+    let mut buchi = without_edges(pool.alloc, &arcs)?;
+    for state in 0..arcs.states() {
+        for letter in 0..arcs.letters {
+            let place = state.saturating_mul(arcs.letters).saturating_add(letter);
+            buchi.add(place, arcs.of(state, letter), &live);
+        }
+    }
+    Ok(buchi)
+}
+
+/// Returns the automaton with room for the edges, and none of them. Fails with `TooManyStates` if there are too many states.
+fn without_edges(alloc: Global, arcs: &Arcs) -> Attempt<Buchi> {
     let words = arcs.states().div_ceil(32);
     let size = (arcs.ends.len() as u64)
         .saturating_mul(2)
@@ -216,26 +271,30 @@ pub fn buchi_of(pool: &FormulaPool, f: u32, mask: u32) -> Attempt<Buchi> {
     if size > MOST_EDGES as u64 {
         return Err(TranslateFault::TooManyStates);
     }
-    let mut images = vec![in pool.alloc; 0u32; size as usize]?;
-    for state in 0..arcs.states() {
-        for letter in 0..arcs.letters {
-            let place = state.saturating_mul(arcs.letters).saturating_add(letter);
-            let from = place.saturating_mul(2).saturating_mul(words);
-            for arc in arcs.of(state, letter) {
-                if is_marked(&live, arc.target) {
-                    add_bit(&mut images, from, arc.target);
-                    if arc.accepts {
-                        add_bit(&mut images, from.saturating_add(words), arc.target);
-                    }
+    Ok(Buchi {
+        letters: arcs.letters,
+        words,
+        images: vec![in alloc; 0u32; size as usize]?,
+    })
+}
+
+impl Buchi {
+    /// Adds the edges of a state at a letter, which lead to states from which something is accepted.
+    fn add(&mut self, place: u32, arcs: &[BuchiEdge], live: &[bool]) {
+        let from = place.saturating_mul(2).saturating_mul(self.words);
+        for arc in arcs {
+            if is_marked(live, arc.target) {
+                add_bit(&mut self.images, from, arc.target);
+                if arc.accepts {
+                    add_bit(
+                        &mut self.images,
+                        from.saturating_add(self.words),
+                        arc.target,
+                    );
                 }
             }
         }
     }
-    Ok(Buchi {
-        letters: arcs.letters,
-        words,
-        images,
-    })
 }
 
 /// Adds a number to the set that begins at a place.

@@ -1,6 +1,6 @@
 //! The product with a memory for the colours, as a parity automaton.
 
-use crate::automaton::{MarkedAutomaton, MarkedEdge};
+use crate::automaton::{KeyedEdges, MarkedAutomaton, MarkedEdge};
 use crate::bdd::{ALWAYS, NEVER};
 use crate::components::ComponentRanks;
 use crate::cycles::{cycle, holds_on};
@@ -14,13 +14,32 @@ use std::alloc::Global;
 
 /// The product, with the tree of each of its components that has a cycle.
 #[derive(Drop)]
-struct Remembering {
-    product: ColouredProduct,
+struct Remembering<'a> {
+    product: &'a ColouredProduct,
     ranks: ComponentRanks,
     trees: Vec<Option<Tree>>,
     /// States with a memory; `entered` has how each is entered.
     entries: NumberedLists<u32>,
     entered: Vec<Climb>,
+    /// The states of the parity automaton: states of the product, each with the memory in which it was entered.
+    states: NumberedLists<u32>,
+}
+
+/// Components that get trees, and what these are made of.
+#[derive(Drop)]
+struct Planting<'a> {
+    product: &'a ColouredProduct,
+    ranks: &'a ComponentRanks,
+    inner: InnerColours,
+    /// The least letter of each class.
+    examples: Vec<u32>,
+}
+
+/// The colours of the edges inside each component: those that are met on some edge, and those on all.
+#[derive(Drop)]
+struct InnerColours {
+    some: Vec<u32>,
+    all: Vec<u32>,
 }
 
 /// Finds the components of the product.
@@ -39,26 +58,46 @@ fn ranks_of(alloc: Global, product: &ColouredProduct) -> Attempt<ComponentRanks>
     ComponentRanks::new(alloc, &rows, product.states.len())
 }
 
-/// Returns the colours of the edges inside each component: those that are met on some edge, and those on all.
+/// Returns the colours of the edges inside each component.
 fn inner_colours(
     alloc: Global,
     product: &ColouredProduct,
     ranks: &ComponentRanks,
-) -> Attempt<(Vec<u32>, Vec<u32>)> {
-    let mut some = vec![in alloc; 0u32; ranks.many as usize]?;
-    let mut all = vec![in alloc; u32::MAX; ranks.many as usize]?;
+) -> Attempt<InnerColours> {
+    let mut inner = InnerColours {
+        some: vec![in alloc; 0u32; ranks.many as usize]?,
+        all: vec![in alloc; u32::MAX; ranks.many as usize]?,
+    };
     for state in 0..product.states.len() {
         let rank = ranks.of(state);
         for edge in product.row(state) {
             if ranks.of(edge.target) == rank {
-                let on_some = item(&some, rank, 0) | edge.mark;
-                let on_all = item(&all, rank, 0) & edge.mark;
-                put(&mut some, rank, on_some);
-                put(&mut all, rank, on_all);
+                inner.meet(rank, edge.mark);
             }
         }
     }
-    Ok((some, all))
+    Ok(inner)
+}
+
+impl InnerColours {
+    /// Notes the colours of an edge inside a component.
+    fn meet(&mut self, rank: u32, colours: u32) {
+        let some = item(&self.some, rank, 0) | colours;
+        let all = item(&self.all, rank, 0) & colours;
+        put(&mut self.some, rank, some);
+        put(&mut self.all, rank, all);
+    }
+}
+
+impl Planting<'_> {
+    /// Returns the letters of a cycle inside the component of a state, or none if the state is on no cycle.
+    fn letters(&self, alloc: Global, state: u32) -> Attempt<Vec<u32>> {
+        let mut letters = cycle(alloc, self.product, self.ranks, state)?;
+        for letter in letters.iter_mut() {
+            *letter = at(&self.examples, *letter);
+        }
+        Ok(letters)
+    }
 }
 
 impl Skeleton {
@@ -88,43 +127,62 @@ impl Skeleton {
         Ok(colours)
     }
 
+    /// Returns the tree of a component in which a diagram is asked on each cycle.
+    fn tree(&mut self, inner: &InnerColours, rank: u32, diagram: u32) -> Attempt<Tree> {
+        let used = self.colours_of(diagram)? & item(&inner.some, rank, 0);
+        let fixed = used & item(&inner.all, rank, 0);
+        let condition = Condition {
+            skeleton: self,
+            diagram,
+        };
+        Tree::new(self.alloc, &condition, used, fixed)
+    }
+
+    /// Returns the tree of the component of a state, if the state is on a cycle.
+    fn tree_at(&mut self, planting: &Planting, state: u32) -> Attempt<Option<Tree>> {
+        let letters = planting.letters(self.alloc, state)?;
+        if letters.is_empty() {
+            return Ok(None);
+        }
+        let diagram = self.condition(planting.product.asked(state), &letters)?;
+        let tree = self.tree(&planting.inner, planting.ranks.of(state), diagram)?;
+        Ok(Some(tree))
+    }
+
+    /// Gives each component that has a cycle its tree. The states are in ascending order of the numbers of their components.
+    fn plant(
+        &mut self,
+        planting: &Planting,
+        order: &[u32],
+        trees: &mut Vec<Option<Tree>>,
+    ) -> Attempt<()> {
+        for state in order {
+            let rank = planting.ranks.of(*state);
+            if matches!(trees.get(rank as usize), Some(None)) {
+                let tree = self.tree_at(planting, *state)?;
+                if let Some(place) = trees.get_mut(rank as usize) {
+                    *place = tree;
+                }
+            }
+        }
+        Ok(())
+    }
+
     /// Returns the tree of each component that has a cycle.
     fn trees(
         &mut self,
         product: &ColouredProduct,
         ranks: &ComponentRanks,
     ) -> Attempt<Vec<Option<Tree>>> {
-        let (some, all) = inner_colours(self.alloc, product, ranks)?;
-        let examples = product.classes.examples(self.alloc)?;
-        let mut trees = Vec::new(self.alloc);
-        for _ in 0..ranks.many {
-            trees.push(None)?;
-        }
-        for state in &ranks.order(self.alloc)? {
-            let rank = ranks.of(*state);
-            let is_new = matches!(trees.get(rank as usize), Some(None));
-            let mut letters = if is_new {
-                cycle(self.alloc, product, ranks, *state)?
-            } else {
-                Vec::new(self.alloc)
-            };
-            if letters.is_empty() {
-                continue;
-            }
-            for letter in letters.iter_mut() {
-                *letter = at(&examples, *letter);
-            }
-            let diagram = self.condition(product.asked(*state), &letters)?;
-            let used = self.colours_of(diagram)? & item(&some, rank, 0);
-            let condition = Condition {
-                skeleton: self,
-                diagram,
-            };
-            let tree = Tree::new(self.alloc, &condition, used, used & item(&all, rank, 0))?;
-            if let Some(place) = trees.get_mut(rank as usize) {
-                *place = Some(tree);
-            }
-        }
+        let planting = Planting {
+            product,
+            ranks,
+            inner: inner_colours(self.alloc, product, ranks)?,
+            examples: product.classes.examples(self.alloc)?,
+        };
+        let order = ranks.order(self.alloc)?;
+        let mut trees = no_trees(self.alloc, ranks.many)?;
+        self.plant(&planting, &order, &mut trees)?;
         Ok(trees)
     }
 
@@ -142,50 +200,82 @@ impl Skeleton {
         Ok(keys)
     }
 
-    /// Returns the parity automaton of a product.
-    pub fn parity(&mut self, product: ColouredProduct) -> Attempt<MarkedAutomaton> {
-        let ranks = ranks_of(self.alloc, &product)?;
-        let trees = self.trees(&product, &ranks)?;
-        let of_product = self.keys(&product)?;
-        let mut remembering = Remembering {
+    /// Returns a product with the trees of its components.
+    fn remembering<'a>(&mut self, product: &'a ColouredProduct) -> Attempt<Remembering<'a>> {
+        let ranks = ranks_of(self.alloc, product)?;
+        let trees = self.trees(product, &ranks)?;
+        Ok(Remembering {
             product,
             ranks,
             trees,
             entries: NumberedLists::new(self.alloc),
             entered: Vec::new(self.alloc),
-        };
-        let mut states = NumberedLists::new(self.alloc);
-        let start = remembering.entered(self.alloc, 0, remembering.begin(0))?;
-        states.number(&[0, start.next])?;
-        let mut edges = Vec::new(self.alloc);
-        let mut keys = Vec::new(self.alloc);
-        for number in 0..u32::MAX {
-            let [state, leaf] = *states.list(number) else {
-                break;
-            };
-            keys.push(at(&of_product, state))?;
-            for class in 0..remembering.product.classes.many {
-                let edge = item(remembering.product.row(state), class, MarkedEdge::NONE);
-                let climb = remembering.step(self.alloc, state, leaf, edge)?;
-                edges.push(MarkedEdge {
-                    target: states.number(&[edge.target, climb.next])?,
-                    mark: climb.priority,
-                })?;
-            }
-            if edges.len() > MOST_EDGES {
-                return Err(TranslateFault::TooManyStates);
-            }
-        }
-        Ok(MarkedAutomaton {
-            alloc: self.alloc,
-            classes: remembering.product.classes,
-            edges,
-            keys,
+            states: NumberedLists::new(self.alloc),
         })
+    }
+
+    /// Returns the parity automaton of a product.
+    pub fn parity(&mut self, product: &ColouredProduct) -> Attempt<MarkedAutomaton> {
+        let mut remembering = self.remembering(product)?;
+        let of_product = self.keys(product)?;
+        let mut found = KeyedEdges::new(self.alloc);
+        remembering.explore(self.alloc, &of_product, &mut found)?;
+        let classes = product.classes.clone()?;
+        Ok(found.with_classes(self.alloc, classes))
     }
 }
 
-impl Remembering {
+/// Returns a list with no tree for each component.
+fn no_trees(alloc: Global, components: u32) -> Attempt<Vec<Option<Tree>>> {
+    let mut trees = Vec::new(alloc);
+    for _ in 0..components {
+        trees.push(None)?;
+    }
+    Ok(trees)
+}
+
+impl Remembering<'_> {
+    /// Finds the edges of each state of the parity automaton; `of_product` has the keys of the product's states.
+    fn explore(
+        &mut self,
+        alloc: Global,
+        of_product: &[u32],
+        found: &mut KeyedEdges,
+    ) -> Attempt<()> {
+        let start = self.entered(alloc, 0, self.begin(0))?;
+        self.states.number(&[0, start.next])?;
+        for number in 0..u32::MAX {
+            let [state, leaf] = *self.states.list(number) else {
+                break;
+            };
+            found.keys.push(at(of_product, state))?;
+            self.expand(alloc, state, leaf, &mut found.edges)?;
+            if found.edges.len() > MOST_EDGES {
+                return Err(TranslateFault::TooManyStates);
+            }
+        }
+        Ok(())
+    }
+
+    /// Appends the edges of a state with a memory.
+    fn expand(
+        &mut self,
+        alloc: Global,
+        state: u32,
+        leaf: u32,
+        edges: &mut Vec<MarkedEdge>,
+    ) -> Attempt<()> {
+        for class in 0..self.product.classes.many {
+            let edge = item(self.product.row(state), class, MarkedEdge::NONE);
+            let climb = self.step(alloc, state, leaf, edge)?;
+            edges.push(MarkedEdge {
+                target: self.states.number(&[edge.target, climb.next])?,
+                mark: climb.priority,
+            })?;
+        }
+        Ok(())
+    }
+
     fn tree(&self, state: u32) -> Option<&Tree> {
         match self.trees.get(self.ranks.of(state) as usize) {
             Some(Some(tree)) => Some(tree),

@@ -56,6 +56,11 @@ impl Progress {
         at(&self.atoms, variable.wrapping_sub(self.propositions))
     }
 
+    /// Returns what is left of a diagram after a letter.
+    pub fn left(&self, f: u32, letter: u32) -> u32 {
+        self.bdd.walk(f, self.propositions, letter)
+    }
+
     /// Notes that an atom stays as it is.
     pub fn fix(&mut self, variable: u32) -> Attempt<()> {
         let same = self.bdd.variable(variable)?;
@@ -113,16 +118,19 @@ impl Progress {
                     let operands = noted(pool, *part, &self.asked)?;
                     self.joined(operator, &operands)?
                 }
-                Operator::Literal(p, false) => {
-                    let f = pool.add(Operator::Literal(p, true), &[])?;
-                    let positive = self.atom(pool, f)?;
-                    self.bdd.not(positive)?
-                }
+                Operator::Literal(p, false) => self.ask_not(pool, p)?,
                 _ => self.atom(pool, *part)?,
             };
             self.asked.set(*part, diagram)?;
         }
         Ok(self.asked.get(f))
+    }
+
+    /// Returns the diagram of the negation of a proposition that is asked of the rest.
+    fn ask_not(&mut self, pool: &mut FormulaPool, p: u32) -> Attempt<u32> {
+        let f = pool.add(Operator::Literal(p, true), &[])?;
+        let positive = self.atom(pool, f)?;
+        self.bdd.not(positive)
     }
 
     /// Returns the diagram of what a formula asks of a letter and of the rest after it.
@@ -142,14 +150,7 @@ impl Progress {
         let operands = noted(pool, f, &self.expansions)?;
         match (operator, operands.as_slice()) {
             (Operator::True, _) => Ok(ALWAYS),
-            (Operator::Literal(p, value), _) => {
-                let diagram = self.bdd.variable(p)?;
-                if value {
-                    Ok(diagram)
-                } else {
-                    self.bdd.not(diagram)
-                }
-            }
+            (Operator::Literal(p, value), _) => self.literal(p, value),
             (Operator::All | Operator::Any, parts) => self.joined(operator, parts),
             (Operator::Next, _) => {
                 let later = pool.operands(f).first().copied().unwrap_or(TRUE);
@@ -157,16 +158,36 @@ impl Progress {
             }
             (Operator::Until, [left, right]) => {
                 let later = self.atom(pool, f)?;
-                let wait = self.bdd.and(*left, later)?;
-                self.bdd.or(*right, wait)
+                self.until(*left, *right, later)
             }
             (Operator::Release, [left, right]) => {
                 let later = self.atom(pool, f)?;
-                let free = self.bdd.or(*left, later)?;
-                self.bdd.and(*right, free)
+                self.release(*left, *right, later)
             }
             _ => Ok(NEVER),
         }
+    }
+
+    /// Returns the diagram of a proposition of the letter, or of its negation.
+    fn literal(&mut self, p: u32, value: bool) -> Attempt<u32> {
+        let diagram = self.bdd.variable(p)?;
+        if value {
+            Ok(diagram)
+        } else {
+            self.bdd.not(diagram)
+        }
+    }
+
+    /// Returns the diagram of a formula with U, which is asked again by `later`.
+    fn until(&mut self, left: u32, right: u32, later: u32) -> Attempt<u32> {
+        let wait = self.bdd.and(left, later)?;
+        self.bdd.or(right, wait)
+    }
+
+    /// Returns the diagram of a formula with R, which is asked again by `later`.
+    fn release(&mut self, left: u32, right: u32, later: u32) -> Attempt<u32> {
+        let free = self.bdd.or(left, later)?;
+        self.bdd.and(right, free)
     }
 
     /// Returns what a diagram asks of the next letter and of the rest after it.

@@ -1,6 +1,7 @@
 //! From a formula to the text of an automaton.
 
-use crate::fault::TranslateFault;
+use crate::automaton::MarkedAutomaton;
+use crate::fault::{Attempt, TranslateFault};
 use crate::minimising::minimised;
 use crate::numbers::count;
 use crate::pool::FormulaPool;
@@ -30,15 +31,31 @@ pub fn propose(
     if names.len() > 16 {
         return Err(TranslateFault::TooManyStates);
     }
+    let (pool, root) = pool_of(alloc, formula)?;
+    let mut skeleton = Skeleton::new(pool, count(names.len()))?;
+    let automaton = automaton_of(&mut skeleton, root)?;
+    least_text_of(&automaton, names)
+}
+
+/// Returns a formula as the number that a pool has for it.
+fn pool_of(alloc: Global, formula: &Formula) -> Attempt<(FormulaPool, u32)> {
     let normal = normal_form(alloc, formula, true)?;
     let mut pool = FormulaPool::new(alloc)?;
     let root = pool.read(&normal.nodes, normal.root)?;
-    let mut skeleton = Skeleton::new(pool, count(names.len()))?;
+    Ok((pool, root))
+}
+
+/// Returns the parity automaton of a formula.
+fn automaton_of(skeleton: &mut Skeleton, root: u32) -> Attempt<MarkedAutomaton> {
     let asked = skeleton.diagram(root)?;
     skeleton.colour()?;
     let product = skeleton.product(asked)?;
-    let automaton = skeleton.parity(product)?;
-    let automaton = minimised(&automaton)?;
+    skeleton.parity(&product)
+}
+
+/// Makes an automaton smaller, and returns its text.
+fn least_text_of(automaton: &MarkedAutomaton, names: &[Vec<u8>]) -> Attempt<Vec<u8>> {
+    let automaton = minimised(automaton)?;
     let places = (automaton.len() as u64).saturating_mul(automaton.classes.letters() as u64);
     if automaton.len() > MOST_STATES || places > MOST_PLACES {
         return Err(TranslateFault::TooManyStates);

@@ -1,7 +1,7 @@
 //! Safra's trees (Foundations of Computer Science, 1988), with nodes in the order of their age (Piterman, Logical Methods in Computer
 //! Science 3, 2007).
 
-use crate::automaton::{MarkedAutomaton, MarkedEdge};
+use crate::automaton::{KeyedEdges, MarkedEdge};
 use crate::buchi::{Buchi, buchi_of};
 use crate::fault::{Attempt, TranslateFault};
 use crate::leaf::Leaf;
@@ -203,37 +203,90 @@ fn step(
     Ok((grown.written(alloc, &goes)?, event))
 }
 
+/// The trees that were met, with the states of their roots, and the steps that are left.
+#[derive(Drop)]
+struct TreeStates {
+    trees: NumberedLists<u32>,
+    labels: NumberedLists<u32>,
+    steps: u64,
+}
+
+impl TreeStates {
+    /// Adds the first tree: a root with state 0.
+    fn begin(&mut self, alloc: Global, words: u32) -> Attempt<()> {
+        let mut root = vec![in alloc; 0u32; (words as usize).saturating_add(1)]?;
+        put(&mut root, 1, 1);
+        self.trees.number(&root)?;
+        Ok(())
+    }
+
+    /// Appends the edge of a tree at a letter.
+    fn add_edge(
+        &mut self,
+        alloc: Global,
+        buchi: &Buchi,
+        list: &[u32],
+        letter: u32,
+        edges: &mut Vec<MarkedEdge>,
+    ) -> Attempt<()> {
+        let (next, mark) = step(alloc, buchi, list, letter, &mut self.steps)?;
+        let target = self.trees.number(&next)?;
+        edges.push(MarkedEdge { target, mark })?;
+        Ok(())
+    }
+
+    /// Appends the edges of a tree, and its key.
+    fn expand(
+        &mut self,
+        alloc: Global,
+        buchi: &Buchi,
+        number: u32,
+        found: &mut KeyedEdges,
+    ) -> Attempt<()> {
+        let list = Vec::from_slice(alloc, self.trees.list(number))?;
+        let label = list.get(1..(buchi.words as usize).saturating_add(1));
+        found.keys.push(self.labels.number(label.unwrap_or(&[]))?)?;
+        for letter in 0..buchi.letters {
+            self.add_edge(alloc, buchi, &list, letter, &mut found.edges)?;
+        }
+        Ok(())
+    }
+
+    /// Finds the edges of each tree.
+    fn explore(&mut self, alloc: Global, buchi: &Buchi, found: &mut KeyedEdges) -> Attempt<()> {
+        self.begin(alloc, buchi.words)?;
+        for number in 0..u32::MAX {
+            if number >= self.trees.len() {
+                break;
+            }
+            self.expand(alloc, buchi, number, found)?;
+            if found.edges.len() > MOST_EDGES {
+                return Err(TranslateFault::TooManyStates);
+            }
+        }
+        Ok(())
+    }
+}
+
+/// Returns the edges between the trees of a Buchi automaton, with events as marks.
+fn edges_of(alloc: Global, buchi: &Buchi) -> Attempt<KeyedEdges> {
+    let mut states = TreeStates {
+        trees: NumberedLists::new(alloc),
+        labels: NumberedLists::new(alloc),
+        steps: STEPS,
+    };
+    let mut found = KeyedEdges::new(alloc);
+    states.explore(alloc, buchi, &mut found)?;
+    Ok(found)
+}
+
 /// Returns the automaton of any formula.
 pub fn by_trees(pool: &FormulaPool, f: u32) -> Attempt<Leaf> {
-    let alloc = pool.alloc;
     let mask = pool.facts(f).propositions;
     let buchi = buchi_of(pool, f, mask)?;
-    let mut trees = NumberedLists::new(alloc);
-    let mut root = vec![in alloc; 0u32; (buchi.words as usize).saturating_add(1)]?;
-    put(&mut root, 1, 1);
-    trees.number(&root)?;
-    let mut labels = NumberedLists::new(alloc);
-    let mut edges = Vec::new(alloc);
-    let mut keys = Vec::new(alloc);
-    let mut steps = STEPS;
-    for number in 0..u32::MAX {
-        if number >= trees.len() {
-            break;
-        }
-        let list = Vec::from_slice(alloc, trees.list(number))?;
-        let label = list.get(1..(buchi.words as usize).saturating_add(1));
-        keys.push(labels.number(label.unwrap_or(&[]))?)?;
-        for letter in 0..buchi.letters {
-            let (next, mark) = step(alloc, &buchi, &list, letter, &mut steps)?;
-            let target = trees.number(&next)?;
-            edges.push(MarkedEdge { target, mark })?;
-        }
-        if edges.len() > MOST_EDGES {
-            return Err(TranslateFault::TooManyStates);
-        }
-    }
-    turn(&mut edges);
-    let automaton = MarkedAutomaton::of_letters(alloc, mask.count_ones(), &edges, keys)?;
+    let mut found = edges_of(pool.alloc, &buchi)?;
+    turn(&mut found.edges);
+    let automaton = found.with_letters(pool.alloc, mask.count_ones())?;
     Leaf::new(&automaton, mask)
 }
 

@@ -49,20 +49,25 @@ impl Skeleton {
                 break;
             };
             let needed = self.needed(g)?;
-            let mut is_ready = true;
-            for part in &needed {
-                if self.known.get(*part) == NONE {
-                    stack.push(*part)?;
-                    is_ready = false;
-                }
-            }
-            if is_ready {
+            if !self.push_unknown(&needed, &mut stack)? {
                 let _ = stack.pop();
                 let diagram = self.joined(g, &needed)?;
                 self.known.set(g, diagram)?;
             }
         }
         Ok(self.known.get(f))
+    }
+
+    /// Pushes the formulas whose diagrams aren't known yet, and returns whether there are any.
+    fn push_unknown(&self, needed: &[u32], stack: &mut Vec<u32>) -> Attempt<bool> {
+        let mut has_unknown = false;
+        for part in needed {
+            if self.known.get(*part) == NONE {
+                stack.push(*part)?;
+                has_unknown = true;
+            }
+        }
+        Ok(has_unknown)
     }
 
     /// Returns the formulas whose diagrams the diagram of a formula needs: its operands, or one formula that says the same.
@@ -100,15 +105,27 @@ impl Skeleton {
         if !fits {
             return Ok(f);
         }
+        let parts = self.made_of_each(operator, &operands, inner)?;
+        self.pool.join(junction, &parts)
+    }
+
+    /// Returns a formula with each operand of its last operand in the place of that one.
+    fn made_of_each(
+        &mut self,
+        operator: Operator,
+        operands: &[u32],
+        inner: u32,
+    ) -> Attempt<Vec<u32>> {
+        let inner = Vec::from_slice(self.alloc, self.pool.operands(inner))?;
         let mut parts = Vec::new(self.alloc);
-        for part in &Vec::from_slice(self.alloc, self.pool.operands(inner))? {
-            let made = match operands.as_slice() {
+        for part in &inner {
+            let made = match operands {
                 [left, _] => self.pool.make(operator, &[*left, *part])?,
                 _ => self.pool.make(operator, &[*part])?,
             };
             parts.push(made)?;
         }
-        self.pool.join(junction, &parts)
+        Ok(parts)
     }
 
     /// Returns the diagram of a formula, once the diagrams that it needs are known.

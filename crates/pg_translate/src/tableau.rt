@@ -81,6 +81,10 @@ impl<'a> Tableau<'a> {
         }
     }
 
+    pub fn alloc(&self) -> Global {
+        self.pool.alloc
+    }
+
     /// Returns the bit of a formula that is asked. Fails with `TooManyStates` if it is new and 64 others have one.
     fn bit(&mut self, f: u32) -> Attempt<u64> {
         if self.places.get(f) == NONE {
@@ -157,54 +161,95 @@ impl<'a> Tableau<'a> {
         found: &[Vec<ChoiceBits>],
     ) -> Attempt<Vec<ChoiceBits>> {
         let alloc = self.pool.alloc;
-        let of = |g: u32| -> &[ChoiceBits] {
-            match found.get(places.get(g) as usize) {
-                Some(choices) => choices.as_slice(),
-                None => &[],
-            }
-        };
-        let free = [ChoiceBits::FREE];
+        let parts = PartChoices { places, found };
         match (self.pool.operator(f), self.pool.operands(f)) {
-            (Operator::True, _) => Ok(Vec::from_slice(alloc, &free)?),
+            (Operator::True, _) => one_choice(alloc, ChoiceBits::FREE),
             (Operator::Literal(p, value), _) => {
-                let holds = (letter.wrapping_shr(p) & 1 == 1) == value;
-                Ok(Vec::from_slice(alloc, if holds { &free } else { &[] })?)
-            }
-            (Operator::All, parts) => {
-                let mut all = Vec::from_slice(alloc, &free)?;
-                for part in parts {
-                    all = together(alloc, &all, of(*part))?;
+                if (letter.wrapping_shr(p) & 1 == 1) == value {
+                    one_choice(alloc, ChoiceBits::FREE)
+                } else {
+                    Ok(Vec::new(alloc))
                 }
-                Ok(all)
             }
-            (Operator::Any, parts) => {
-                let mut all = Vec::new(alloc);
-                for part in parts {
-                    all = either(alloc, &all, of(*part))?;
-                }
-                Ok(all)
-            }
-            (Operator::Next, [g]) => match self.asked(*g)? {
-                Some(asks) => Ok(Vec::from_slice(alloc, &[ChoiceBits { asks, puts: 0 }])?),
-                None => Ok(Vec::new(alloc)),
-            },
+            (Operator::All, operands) => parts.all(alloc, operands),
+            (Operator::Any, operands) => parts.any(alloc, operands),
+            (Operator::Next, [g]) => self.expanded_next(*g),
             (Operator::Until, [g, h]) => {
                 let here = self.bit(f)?;
-                let later = [ChoiceBits {
-                    asks: here,
-                    puts: here,
-                }];
-                either(alloc, of(*h), &together(alloc, of(*g), &later)?)
+                parts.until(alloc, *g, *h, here)
             }
             (Operator::Release, [g, h]) => {
                 let here = self.bit(f)?;
-                let later = [ChoiceBits {
-                    asks: here,
-                    puts: 0,
-                }];
-                together(alloc, of(*h), &either(alloc, of(*g), &later)?)
+                parts.release(alloc, *g, *h, here)
             }
             _ => Ok(Vec::new(alloc)),
         }
+    }
+
+    /// Returns the choice to ask for a formula from the next step on, or none if the formula is false.
+    fn expanded_next(&mut self, g: u32) -> Attempt<Vec<ChoiceBits>> {
+        match self.asked(g)? {
+            Some(asks) => one_choice(self.pool.alloc, ChoiceBits { asks, puts: 0 }),
+            None => Ok(Vec::new(self.pool.alloc)),
+        }
+    }
+}
+
+/// Returns a list of one choice.
+fn one_choice(alloc: Global, choice: ChoiceBits) -> Attempt<Vec<ChoiceBits>> {
+    Ok(Vec::from_slice(alloc, &[choice])?)
+}
+
+/// The choices of the parts of a formula; `places` has the place of each part's list.
+#[derive(Clone, Copy)]
+struct PartChoices<'a> {
+    places: &'a NumberMap,
+    found: &'a [Vec<ChoiceBits>],
+}
+
+impl PartChoices<'_> {
+    fn of(&self, g: u32) -> &[ChoiceBits] {
+        match self.found.get(self.places.get(g) as usize) {
+            Some(choices) => choices.as_slice(),
+            None => &[],
+        }
+    }
+
+    /// Returns the choices of a conjunction.
+    fn all(&self, alloc: Global, operands: &[u32]) -> Attempt<Vec<ChoiceBits>> {
+        let mut all = one_choice(alloc, ChoiceBits::FREE)?;
+        for part in operands {
+            all = together(alloc, &all, self.of(*part))?;
+        }
+        Ok(all)
+    }
+
+    /// Returns the choices of a disjunction.
+    fn any(&self, alloc: Global, operands: &[u32]) -> Attempt<Vec<ChoiceBits>> {
+        let mut all = Vec::new(alloc);
+        for part in operands {
+            all = either(alloc, &all, self.of(*part))?;
+        }
+        Ok(all)
+    }
+
+    /// Returns the choices of `g U h`, whose bit is `here`.
+    fn until(&self, alloc: Global, g: u32, h: u32, here: u64) -> Attempt<Vec<ChoiceBits>> {
+        let later = [ChoiceBits {
+            asks: here,
+            puts: here,
+        }];
+        let wait = together(alloc, self.of(g), &later)?;
+        either(alloc, self.of(h), &wait)
+    }
+
+    /// Returns the choices of `g R h`, whose bit is `here`.
+    fn release(&self, alloc: Global, g: u32, h: u32, here: u64) -> Attempt<Vec<ChoiceBits>> {
+        let later = [ChoiceBits {
+            asks: here,
+            puts: 0,
+        }];
+        let free = either(alloc, self.of(g), &later)?;
+        together(alloc, self.of(h), &free)
     }
 }

@@ -85,6 +85,12 @@ impl Writer {
         )
     }
 
+    fn begin_state(&mut self, number: u32) -> Attempt<()> {
+        self.word(b"State: ")?;
+        self.number(number)?;
+        self.word(b"\n")
+    }
+
     fn cube(&mut self, cube: Cube) -> Attempt<()> {
         if cube.said == 0 {
             return self.word(b"t");
@@ -213,16 +219,10 @@ fn write_state(
     sink: u32,
     propositions: u32,
 ) -> Attempt<()> {
-    let alloc = automaton.alloc;
-    writer.word(b"State: ")?;
-    writer.number(number_in_text(state, sink))?;
-    writer.word(b"\n")?;
-    let mut row = Vec::new(alloc);
-    for letter in 0..automaton.classes.letters() {
-        row.push(automaton.step(state, letter))?;
-    }
-    let mut edges = NumberedLists::new(alloc);
-    let cubes = cubes(alloc, &row, propositions, &mut edges)?;
+    writer.begin_state(number_in_text(state, sink))?;
+    let row = row_of(automaton, state)?;
+    let mut edges = NumberedLists::new(automaton.alloc);
+    let cubes = cubes(automaton.alloc, &row, propositions, &mut edges)?;
     for number in 0..edges.len() {
         let [target, priority] = *edges.list(number) else {
             break;
@@ -232,4 +232,13 @@ fn write_state(
         }
     }
     Ok(())
+}
+
+/// Returns the edges of a state, letter by letter.
+fn row_of(automaton: &MarkedAutomaton, state: u32) -> Attempt<Vec<MarkedEdge>> {
+    let mut row = Vec::new(automaton.alloc);
+    for letter in 0..automaton.classes.letters() {
+        row.push(automaton.step(state, letter))?;
+    }
+    Ok(row)
 }

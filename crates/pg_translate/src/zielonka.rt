@@ -3,7 +3,7 @@
 
 use crate::bdd::ALWAYS;
 use crate::fault::{Attempt, TranslateFault};
-use crate::numbers::{NONE, at, count, power, spend};
+use crate::numbers::{NONE, count, power, put, spend};
 use crate::skeleton::Skeleton;
 use std::alloc::Global;
 
@@ -40,11 +40,13 @@ impl Condition<'_> {
     }
 }
 
-/// A set of colours. Its children are the greatest subsets that are accepted if it isn't, and that aren't if it is.
-#[derive(Drop)]
+/// A set of colours. Its children are the greatest subsets that are accepted if it isn't, and that aren't if it is. Their numbers come one
+/// after another.
+#[derive(Clone, Copy)]
 struct ZielonkaNode {
     colours: u32,
-    children: Vec<u32>,
+    first_child: u32,
+    children: u32,
     parent: u32,
     depth: u32,
 }
@@ -108,50 +110,63 @@ fn alternatives(
 impl Tree {
     /// Returns the tree of a condition over colours. The fixed ones of these are met on each cycle.
     pub fn new(alloc: Global, condition: &Condition, colours: u32, fixed: u32) -> Attempt<Tree> {
-        let mut nodes: Vec<ZielonkaNode> = Vec::new(alloc);
-        nodes.push(ZielonkaNode {
-            colours,
-            children: Vec::new(alloc),
-            parent: 0,
-            depth: 0,
-        })?;
-        let mut steps = STEPS;
-        let mut deepest = 0;
-        for place in 0..MOST_NODES {
-            let Some(node) = nodes.get(place) else {
-                break;
-            };
-            let depth = node.depth.saturating_add(1);
-            deepest = node.depth;
-            let found = alternatives(alloc, condition, node.colours, fixed, &mut steps)?;
-            let mut children = Vec::new(alloc);
-            for subset in &found {
-                children.push(count(nodes.len()))?;
-                nodes.push(ZielonkaNode {
-                    colours: *subset,
-                    children: Vec::new(alloc),
-                    parent: count(place),
-                    depth,
-                })?;
-            }
-            if let Some(node) = nodes.get_mut(place) {
-                node.children = children;
-            }
-        }
-        if nodes.len() > MOST_NODES {
-            return Err(TranslateFault::TooManyStates);
-        }
+        let mut tree = Tree {
+            nodes: Vec::new(alloc),
+            greatest: 0,
+        };
+        tree.add(colours, 0, 0)?;
+        tree.grow(alloc, condition, fixed)?;
+        let deepest = tree.deepest();
         let is_odd = condition.accepts(colours) != (deepest % 2 == 0);
-        Ok(Tree {
-            nodes,
-            greatest: deepest.saturating_add(is_odd as u32),
-        })
+        tree.greatest = deepest.saturating_add(is_odd as u32);
+        Ok(tree)
     }
 
-    fn children(&self, node: u32) -> &[u32] {
-        match self.nodes.get(node as usize) {
-            Some(node) => &node.children,
-            None => &[],
+    /// Adds a node without children.
+    fn add(&mut self, colours: u32, parent: u32, depth: u32) -> Attempt<()> {
+        self.nodes.push(ZielonkaNode {
+            colours,
+            first_child: 0,
+            children: 0,
+            parent,
+            depth,
+        })?;
+        Ok(())
+    }
+
+    /// Gives each node its children, level by level. Fails with `TooManyStates` if there are too many nodes then.
+    fn grow(&mut self, alloc: Global, condition: &Condition, fixed: u32) -> Attempt<()> {
+        let mut steps = STEPS;
+        for place in 0..MOST_NODES {
+            let Some(node) = self.nodes.get(place).copied() else {
+                break;
+            };
+            let found = alternatives(alloc, condition, node.colours, fixed, &mut steps)?;
+            self.add_children(count(place), node, &found)?;
+        }
+        if self.nodes.len() > MOST_NODES {
+            return Err(TranslateFault::TooManyStates);
+        }
+        Ok(())
+    }
+
+    /// Adds the children of a node, which have these colours.
+    fn add_children(&mut self, place: u32, node: ZielonkaNode, found: &[u32]) -> Attempt<()> {
+        let mut node = node;
+        node.first_child = count(self.nodes.len());
+        node.children = count(found.len());
+        put(&mut self.nodes, place, node);
+        for subset in found {
+            self.add(*subset, place, node.depth.saturating_add(1))?;
+        }
+        Ok(())
+    }
+
+    /// Returns the depth of the last node; none is deeper.
+    fn deepest(&self) -> u32 {
+        match self.nodes.last() {
+            Some(node) => node.depth,
+            None => 0,
         }
     }
 
@@ -159,10 +174,10 @@ impl Tree {
     pub fn first_leaf(&self, node: u32) -> u32 {
         let mut leaf = node;
         for _ in 0..self.nodes.len() {
-            let Some(child) = self.children(leaf).first() else {
-                break;
-            };
-            leaf = *child;
+            match self.nodes.get(leaf as usize) {
+                Some(node) if node.children > 0 => leaf = node.first_child,
+                _ => break,
+            }
         }
         leaf
     }
@@ -201,9 +216,14 @@ impl Tree {
 
     /// Returns the child of a node after `child`, or the first one after the last.
     fn sibling(&self, node: u32, child: u32) -> u32 {
-        let children = self.children(node);
-        let place = children.iter().position(|it| *it == child).unwrap_or(0);
-        let next = at(children, count(place).saturating_add(1));
-        if next == NONE { at(children, 0) } else { next }
+        let Some(node) = self.nodes.get(node as usize) else {
+            return NONE;
+        };
+        let next = child.saturating_add(1);
+        if next.saturating_sub(node.first_child) < node.children {
+            next
+        } else {
+            node.first_child
+        }
     }
 }
