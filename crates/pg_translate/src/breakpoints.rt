@@ -31,7 +31,7 @@ fn recurring(pool: &FormulaPool, f: u32) -> Option<u32> {
 }
 
 impl Breakpoints {
-    /// Returns the first state of a formula.
+    /// Returns the states of a formula that are known at first: the start alone.
     fn new(pool: &mut FormulaPool, f: u32, propositions: u32) -> Attempt<Breakpoints> {
         let mut points = Breakpoints {
             progress: Progress::new(pool.alloc, propositions, false)?,

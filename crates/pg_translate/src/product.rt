@@ -136,7 +136,7 @@ impl Skeleton {
         Ok(mask)
     }
 
-    /// Returns the state to which a list that was led along a letter leads. The list's diagram is what was asked of that letter.
+    /// Settles a list, and returns the number of its state, which is added if it is new.
     fn target(&mut self, exploring: &mut Exploring, list: &mut [u32]) -> Attempt<u32> {
         self.settle(list)?;
         Ok(exploring.states.number(list)?)
